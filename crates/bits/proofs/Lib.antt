@@ -1,0 +1,6 @@
+-- The crate's laws, in reading order.
+pub mod Truth
+pub mod Below
+pub mod Word
+pub mod Members
+pub mod Walk

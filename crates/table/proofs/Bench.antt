@@ -1,0 +1,27 @@
+-- Soundness is computed: the table of the bench cases of 01, role 5 above 3, 3 above 1, only (0, 9) a permission. Assumes nothing.
+use Prim.Native.Nat.{ℕ, _+_, _^_}
+use mathlib.Core.Path.{_≡_, refl}
+use mathlib.Core.Bool.{true}
+use mathlib.Core.List.{List}
+use lib.Dec.{eqb}
+use Rattle.bits.specs.Truth.{_and_, _or_, _implies_, if_then_else_}
+use Rattle.bits.specs.Sets.{has, all, any, each, some, bit, pack}
+use Rattle.table.specs.Layout.{word, juniors, permitted, assigned, granted, owner, active, holds}
+use Rattle.table.specs.Encode.{tabulate, encode}
+use Rattle.table.specs.State.{senior, permission, idle, user, covers, authorised, mayActivate, effective}
+use Rattle.table.specs.Sound.{reflexive, transitive, antisymmetric, grantsPermitted, ownersKnown, idleEmpty, activeAuthorised, openingsEffective, sound}
+
+bench : List ℕ
+bench = encode (record {
+  juniors = λ r. if eqb r 5 then 2 ^ 5 + 2 ^ 3 + 2 ^ 1 else if eqb r 3 then 2 ^ 3 + 2 ^ 1 else 2 ^ r;
+  permitted = λ x. if eqb x 0 then 2 ^ 9 else 0;
+  assigned = λ u. 0;
+  granted = λ x o. 0;
+  owner = λ s. 0;
+  active = λ s. 0;
+  holds = λ s x. 0;
+})
+
+bench-sound : sound bench ≡ true
+unfolding bench encode tabulate sound reflexive transitive antisymmetric grantsPermitted ownersKnown idleEmpty activeAuthorised openingsEffective senior permission idle user covers authorised mayActivate effective juniors permitted assigned granted owner active holds word has all any each some bit pack _and_ _or_ _implies_ if_then_else_
+bench-sound = refl

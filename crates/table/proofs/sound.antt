@@ -1,0 +1,3 @@
+-- Laws of soundness.
+pub mod Laws
+pub mod Items

@@ -1,0 +1,2 @@
+-- Laws of the state that a table shows.
+pub mod Laws

@@ -1,0 +1,14 @@
+// Where the sections of the table start.
+pub const WORDS: usize = 968;
+
+pub const PERMITTED: usize = 64;
+
+pub const ASSIGNED: usize = 72;
+
+pub const GRANTED: usize = 136;
+
+pub const OWNER: usize = 648;
+
+pub const ACTIVE: usize = 680;
+
+pub const HOLDS: usize = 712;
