@@ -1,7 +1,7 @@
 -- Laws of every and of some number below n. Assumes nothing.
 use Prim.Native.Nat.{ℕ, zero, suc, _+_, _≤_, _<_, zero-le}
 use mathlib.Core.Path.{_≡_, refl, sym, ap, ap₂, subst, _∙_}
-use mathlib.Core.Bool.{Bool, true, false}
+use mathlib.Core.Bool.{Bool, true, false, not}
 use mathlib.Core.Logic.{⊎-elim}
 use native.Mathlib.Nat.{le-of-suc-le-suc, not-suc-le-zero, eq-or-lt-of-le, lt-of-lt-of-le}
 use native.Mathlib.Numerals.{add-one}
@@ -9,7 +9,7 @@ use native.Mathlib.Omega.{arith}
 use lib.Dec.{T, leb, lit≤}
 use Rattle.bits.specs.Truth.{_and_, _or_}
 use Rattle.bits.specs.Sets.{all, any, least, Any}
-use Rattle.bits.proofs.Truth.{clash, is-false, and-intro, and-left, and-right, or-left, or-right, or-elim, if-true, if-false}
+use Rattle.bits.proofs.Truth.{clash, by-truth, is-false, and-intro, and-left, and-right, or-left, or-right, or-elim, if-true, if-false}
 
 -- a number below n + 1 is n or below n
 pub below-suc : {A : Type 0} {i n : ℕ} → i < suc n → (i ≡ n → A) → (i < n → A) → A
@@ -30,6 +30,19 @@ module _ (f : ℕ → Bool) where
   -- one that fails
   pub all-fails : (n i : ℕ) → i < n → f i ≡ false → all n f ≡ false
   all-fails n i h e = is-false (λ p. clash (all-elim n p i h) e)
+
+  -- where it does not hold of all, there is one of which it does not hold
+  pub all-counter : (n : ℕ) → all n f ≡ false → Any n (λ i. not (f i))
+  unfolding all
+  all-counter zero e = clash refl e
+  all-counter (suc n) e =
+      by-truth (f n)
+      (λ p.
+      let q : all n f ≡ false = is-false (λ k. clash (and-intro k p) e) in
+      let a = all-counter n q in
+      let b = a .below in
+      record { at = a .at; below = omega arith; holds = a .holds })
+      (λ p. record { at = n; below = omega arith; holds = ap not p })
 
   -- as a loop counts: none passed, one more, all passed
   pub all-none : all 0 f ≡ true

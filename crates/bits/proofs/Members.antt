@@ -49,6 +49,12 @@ module _ (w : ℕ) (f : ℕ → Bool) where
   pub some-fails : some w f ≡ false → (i : ℕ) → i < 64 → has w i ≡ true → f i ≡ false
   some-fails e i h m = is-false (λ p. clash (some-intro i h m p) e)
 
+-- where it does not hold of each member, there is one of which it does not hold
+pub each-counter : (w : ℕ) (f : ℕ → Bool) → each w f ≡ false → Some w (λ i. not (f i))
+each-counter w f e =
+    by-truth (some w (λ i. not (f i))) (some-elim w (λ i. not (f i)))
+    (λ p. clash (each-intro w f (λ i h m. by-truth (f i) (λ q. q) (λ q. clash (some-intro w (λ i. not (f i)) i h m (ap not q)) p))) e)
+
 pub each-none : (f : ℕ → Bool) → each 0 f ≡ true
 each-none f = each-intro 0 f (λ i h m. clash m (has-zero i))
 

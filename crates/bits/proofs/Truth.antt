@@ -108,6 +108,14 @@ unfolding _implies_
 implies-elim true b e p = e
 implies-elim false b e p = clash p refl
 
+pub implies-fails : {a b : Bool} → a ≡ true → b ≡ false → a implies b ≡ false
+implies-fails {a} {b} p q = is-false (λ e. clash (implies-elim a b e p) q)
+
+pub implies-counter : (a b : Bool) → not (a implies b) ≡ true → (a ≡ true) × (b ≡ false)
+unfolding _implies_
+implies-counter true b e = (refl, not-true b e)
+implies-counter false b e = clash e refl
+
 -- ---- choice
 
 pub if-true : {A : Type 0} {b : Bool} (x y : A) → b ≡ true → (if b then x else y) ≡ x

@@ -232,6 +232,9 @@ without-absent w i h e =
     (λ p. is-false (λ z. clash (and-left (not (eqb j i)) (has w j) z) (ap not p)) ∙ sym (ap (λ (k : ℕ). has w k) (eqb-true j i p) ∙ e))
     (λ p. true-and (has w j) (ap not p)))
 
+pub without-none : (i : ℕ) → 0 without i ≡ 0
+without-none i = without-absent 0 i (pow-pos 64) (has-zero i)
+
 -- ---- as the code works them out
 
 pub with-is : (w i : ℕ) → w < 2 ^ 64 → i < 64 → bitOr w (2 ^ i) ≡ w with i

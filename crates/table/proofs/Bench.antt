@@ -5,11 +5,10 @@ use mathlib.Core.Bool.{true}
 use mathlib.Core.List.{List}
 use lib.Dec.{eqb}
 use Rattle.bits.specs.Truth.{_and_, _or_, _implies_, if_then_else_}
-use Rattle.bits.specs.Sets.{has, all, any, each, some, bit, pack}
-use Rattle.table.specs.Layout.{word, juniors, permitted, assigned, granted, owner, active, holds}
-use Rattle.table.specs.Encode.{tabulate, encode}
-use Rattle.table.specs.State.{senior, permission, idle, user, covers, authorised, mayActivate, effective}
+use Rattle.bits.specs.Sets.{has, all, any, each, some}
+use Rattle.table.specs.State.{covers, authorised, mayActivate, effective}
 use Rattle.table.specs.Sound.{reflexive, transitive, antisymmetric, grantsPermitted, ownersKnown, idleEmpty, activeAuthorised, openingsEffective, sound}
+use Rattle.table.specs.Table.{state, tabulate, encode}
 
 bench : List ℕ
 bench = encode (record {
@@ -22,6 +21,6 @@ bench = encode (record {
   holds = λ s x. 0;
 })
 
-bench-sound : sound bench ≡ true
-unfolding bench encode tabulate sound reflexive transitive antisymmetric grantsPermitted ownersKnown idleEmpty activeAuthorised openingsEffective senior permission idle user covers authorised mayActivate effective juniors permitted assigned granted owner active holds word has all any each some bit pack _and_ _or_ _implies_ if_then_else_
+bench-sound : sound (state bench) ≡ true
+unfolding bench encode tabulate sound reflexive transitive antisymmetric grantsPermitted ownersKnown idleEmpty activeAuthorised openingsEffective covers authorised mayActivate effective has all any each some _and_ _or_ _implies_ if_then_else_
 bench-sound = refl

@@ -1,4 +1,11 @@
--- Laws that belong to no one module of the code.
-pub mod Tabulate
+-- The crate's laws, in reading order.
+pub mod State
+pub mod Sound
 pub mod Claims
+pub mod Agree
+pub mod Keeps
+pub mod Tabulate
+pub mod Table
+pub mod Encode
+pub mod Answers
 pub mod Bench

@@ -2,19 +2,18 @@
 use Prim.Native.Nat.{ℕ}
 use mathlib.Core.Path.{_≡_}
 use mathlib.Core.Bool.{true}
-use mathlib.Core.List.{List}
 use mathlib.Core.Logic.{_↔_}
-use Rattle.table.specs.State.{authorised, effective, Authorised, Effective}
+use Rattle.table.specs.State.{State, authorised, effective, Authorised, Effective}
 use Rattle.table.specs.Sound.{sound, Sound}
 
 -- When is a role authorised for a user? Exactly when some role assigned to the user is senior to it or is it.
 abbrev pub AuthorisedMeans : Type 0
-AuthorisedMeans = (t : List ℕ) (u q : ℕ) → authorised t u q ≡ true ↔ Authorised t u q
+AuthorisedMeans = (S : State) (u q : ℕ) → authorised S u q ≡ true ↔ Authorised S u q
 
 -- When is a pair effective for a session? Exactly when it is a permission, granted to an active role or to a junior of one.
 abbrev pub EffectiveMeans : Type 0
-EffectiveMeans = (t : List ℕ) (s x o : ℕ) → effective t s x o ≡ true ↔ Effective t s x o
+EffectiveMeans = (S : State) (s x o : ℕ) → effective S s x o ≡ true ↔ Effective S s x o
 
--- When is a table sound? Exactly when all the facts of `Sound` hold.
+-- When is a state sound? Exactly when all the facts of `Sound` hold.
 abbrev pub SoundMeans : Type 0
-SoundMeans = (t : List ℕ) → sound t ≡ true ↔ Sound t
+SoundMeans = (S : State) → sound S ≡ true ↔ Sound S

@@ -1,7 +1,6 @@
 -- The crate's definitions, in reading order.
-pub mod Layout
-pub mod Encode
 pub mod State
 pub mod Sound
 pub mod Claims
-pub mod Tests
+pub mod Table
+pub mod Answers

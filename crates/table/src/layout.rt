@@ -1,4 +1,4 @@
-// Where the sections of the table start.
+// Where the sections of the table start, and its length.
 pub const WORDS: usize = 968;
 
 pub const PERMITTED: usize = 64;

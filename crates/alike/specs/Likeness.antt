@@ -1,0 +1,35 @@
+-- Likeness of two tables (01, "Set-up and likeness"): the same openings, and the same effective permissions of each session.
+use Prim.Native.Nat.{ℕ, _<_}
+use mathlib.Core.Path.{_≡_}
+use mathlib.Core.Bool.{Bool, not}
+use mathlib.Core.List.{List}
+use lib.Dec.{eqb}
+use Rattle.bits.specs.Truth.{_and_, if_then_else_}
+use Rattle.bits.specs.Sets.{all, pack}
+use Rattle.table.specs.State.{State, effective}
+use Rattle.table.specs.Sound.{sound}
+use Rattle.table.specs.Table.{isTable, state}
+
+-- session s holds the same objects in each mode, and the same are effective for it
+unfoldable pub sameSession : State → State → ℕ → Bool
+sameSession S S′ s =
+    all 8 (λ x.
+    eqb (S .holds s x) (S′ .holds s x)
+    and eqb (pack 64 (effective S s x)) (pack 64 (effective S′ s x)))
+
+unfoldable pub sameState : State → State → Bool
+sameState S S′ = all 32 (λ s. sameSession S S′ s)
+
+-- 12 then 13 for the first table, then for the second, else 1 or 0
+unfoldable pub likeness : List ℕ → List ℕ → ℕ
+likeness first second =
+    if not (isTable first) then 12 else
+    if not (sound (state first)) then 13 else
+    if not (isTable second) then 12 else
+    if not (sound (state second)) then 13 else
+    if sameState (state first) (state second) then 1 else 0
+
+-- the same, as plain facts
+pub record Alike (S S′ : State) : Type 0 where
+  pub same-openings : (s x : ℕ) → s < 32 → x < 8 → S .holds s x ≡ S′ .holds s x
+  pub same-permissions : (s x o : ℕ) → s < 32 → x < 8 → o < 64 → effective S s x o ≡ effective S′ s x o

@@ -1,0 +1,53 @@
+// Likeness of two tables.
+use roles::Answer;
+use roles::Refusal;
+use table::layout::HOLDS;
+use table::layout::WORDS;
+ghost use mathlib.Core.Path.{_≡_};
+ghost use Prim.Native.Nat.{_<_};
+ghost use lib.ListN.{length};
+ghost use Rattle.table.specs.Table.{state};
+ghost use Rattle.roles.specs.Answer.{numberOf};
+ghost use Rattle.alike.specs.Likeness.{sameSession, likeness};
+
+// Whether session s holds the same in both tables, and the same is effective for it.
+fn same_session(first: &[u64], second: &[u64], s: usize) -> bool
+    requires { ⌜ (length (now first) ≡ 968) × ((length (now second) ≡ 968) × (s < 32)) ⌝ }
+    ensures { λ b. ⌜ b ≡ sameSession (state (now (first .entry))) (state (now (second .entry))) s ⌝ }
+{
+    let here = table::effective_permissions(first, s);
+    let there = table::effective_permissions(second, s);
+    for x in 0..8 {
+        if first[HOLDS + 8 * s + x] != second[HOLDS + 8 * s + x] {
+            return false;
+        }
+        if here[x] != there[x] {
+            return false;
+        }
+    }
+    true
+}
+
+// Whether the two tables are alike; neither is changed.
+pub fn alike(first: &[u64], second: &[u64]) -> Answer
+    ensures { λ r. ⌜ numberOf r ≡ likeness (now (first .entry)) (now (second .entry)) ⌝ }
+{
+    if first.len() != WORDS {
+        return Answer::Refused(Refusal::WrongLength);
+    }
+    if !sound::is_sound(first) {
+        return Answer::Refused(Refusal::Unsound);
+    }
+    if second.len() != WORDS {
+        return Answer::Refused(Refusal::WrongLength);
+    }
+    if !sound::is_sound(second) {
+        return Answer::Refused(Refusal::Unsound);
+    }
+    for s in 0..32 {
+        if !same_session(first, second, s) {
+            return Answer::No;
+        }
+    }
+    Answer::Yes
+}

@@ -1,0 +1,252 @@
+-- The claims of specs/Claims.antt. Assumes nothing.
+use Prim.Native.Nat.{ℕ, _^_, _<_}
+use mathlib.Core.Path.{_≡_, refl, sym, ap, ap₂, subst, _∙_}
+use mathlib.Core.Bool.{Bool, true, false, not}
+use mathlib.Core.List.{List, [], _∷_}
+use native.Mathlib.Nat.{le-of-suc-le-suc}
+use lib.Dec.{eqb}
+use borrow.Author.Tests.{le-leb, eqb-true, eqb-false, not-true}
+use Rattle.bits.specs.Truth.{_and_, _or_}
+use Rattle.bits.specs.Sets.{has, _with_, _without_}
+use Rattle.bits.proofs.Truth.{clash, by-truth, same-truth, and-intro, and-left, and-right, false-or, true-and, false-and, and-false, and-comm}
+use Rattle.bits.proofs.Below.{any-intro, any-elim}
+use Rattle.bits.proofs.Word.{has-with, has-without, with-there, without-absent}
+use Rattle.table.specs.State.{State, senior, permission, effective, upd}
+use Rattle.table.specs.Sound.{Sound}
+use Rattle.table.specs.Table.{state, encode}
+use Rattle.table.proofs.State.{effective-intro, effective-elim}
+use Rattle.table.proofs.Sound.{sound-elim, sound-intro}
+use Rattle.table.proofs.Table.{table-length}
+use Rattle.table.proofs.Agree.{Agree, agree-refl, sound-agree, upd-other, by-upd, upd-own, grid-same, agree-own-holds, agree-own-active, agree-own-assigned, agree-own-granted}
+use Rattle.table.proofs.Encode.{state-encode, encode-cong, encode-state}
+use Rattle.sound.specs.Answers.{isSound}
+use Rattle.sound.proofs.Answers.{sound-state, sound-table}
+use Rattle.roles.specs.Request.{ask, Outcome, refuse, within}
+use Rattle.roles.specs.Roles.{Request, opens, closes, starts, ends, activates, drops, assigns, deassigns, grants, revokes, isCode, limits, inRange, decode, known, allowed, changed}
+use Rattle.roles.specs.Guard.{roleStep}
+use Rattle.roles.specs.Served.{Ranged}
+use Rattle.roles.specs.Source.{Sigma, sigma, EP, opened, closed, tauOpen, tauClose, Same}
+use Rattle.roles.specs.Claims.{Unchanged, after, KeptSound, ServedSame, IsTableOne, OpenIsTableOne, CloseIsTableOne, idempotent, AddedAgain}
+use Rattle.roles.proofs.Serving.{decide-yes, decide-no}
+use Rattle.roles.proofs.Same.{step-same}
+use Rattle.roles.proofs.Steps.{Passed, by-step, decided, in-reach, step-sound}
+
+answer-of : {A : Type 0} {o o′ : Outcome A} → o ≡ o′ → o .answer ≡ o′ .answer
+answer-of {A} e = ap (λ (p : Outcome A). p .answer) e
+
+state-of : {A : Type 0} {o o′ : Outcome A} → o ≡ o′ → o .state ≡ o′ .state
+state-of {A} e = ap (λ (p : Outcome A). p .state) e
+
+-- the words of a table of 64-bit words
+record Words (S : State) : Type 0 where
+  assigned-word : (u : ℕ) → S .assigned u < 2 ^ 64
+  granted-word : (x o : ℕ) → S .granted x o < 2 ^ 64
+  active-word : (s : ℕ) → S .active s < 2 ^ 64
+  holds-word : (s x : ℕ) → S .holds s x < 2 ^ 64
+
+pub unchanged : Unchanged
+unfolding refuse
+unchanged t q n =
+    by-step t q
+    (λ k h e. state-of e)
+    (λ p. by-truth (allowed (state t) (decode q))
+    (λ a. absurd (n (answer-of (decided t q p ∙ decide-yes 1 1 _ t a))))
+    (λ a. state-of (decided t q p ∙ decide-no 1 1 _ t a)))
+
+pub kept-sound : KeptSound
+unfolding after
+kept-sound t [] s = s
+kept-sound t (q ∷ qs) s = kept-sound (roleStep t q .state) qs (step-sound t q s)
+
+pub served-same : ServedSame
+served-same t q s = step-same t q (sound-table t s) (sound-state t s)
+
+-- ---- table 1 of source 000
+
+EP-effective : (S : State) (s x o : ℕ) → s < 32 → x < 8 → o < 64 → EP (permission S) (senior S) (sigma S) s x o ≡ effective S s x o
+unfolding EP sigma
+EP-effective S s x o hs hx ho =
+    same-truth
+    (λ e.
+    let r = any-elim _ 64 (and-right _ _ e) in
+    let q = any-elim _ 64 (and-right _ _ (r .holds)) in
+    effective-intro S s x o (record {
+      permitted-pair = and-left _ _ e;
+      role = r .at;
+      below = r .below;
+      active-in = and-left _ _ (r .holds);
+      junior = q .at;
+      junior-below = q .below;
+      senior-to = and-left _ _ (q .holds);
+      granted-to = and-right _ _ (q .holds);
+    }))
+    (λ e.
+    let f = effective-elim S s x o e in
+    and-intro (f .permitted-pair)
+    (any-intro _ 64 (f .role) (f .below) (and-intro (f .active-in) (any-intro _ 64 (f .junior) (f .junior-below) (and-intro (f .senior-to) (f .granted-to))))))
+
+-- the states of source 000 of states that agree are the same
+same-sigma : {S S′ : State} → Agree S S′ → Same (sigma S) (sigma S′)
+unfolding sigma
+same-sigma a = record {
+  m = λ s o x hs ho hx. ap (λ (w : ℕ). has w o) (a .holds s x hs hx);
+  user = λ s hs. a .owner s hs;
+  UA = λ u r hu hr. ap (λ (w : ℕ). has w r) (a .assigned u hu);
+  PA = λ x o r hx ho hr. ap (λ (w : ℕ). has w r) (a .granted x o hx ho);
+  roles = λ s r hs hr. ap (λ (w : ℕ). has w r) (a .active s hs);
+}
+
+same-trans : {σ σ′ σ″ : Sigma} → Same σ σ′ → Same σ′ σ″ → Same σ σ″
+same-trans a b = record {
+  m = λ s o x hs ho hx. a .m s o x hs ho hx ∙ b .m s o x hs ho hx;
+  user = λ s hs. a .user s hs ∙ b .user s hs;
+  UA = λ u r hu hr. a .UA u r hu hr ∙ b .UA u r hu hr;
+  PA = λ x o r hx ho hr. a .PA x o r hx ho hr ∙ b .PA x o r hx ho hr;
+  roles = λ s r hs hr. a .roles s r hs hr ∙ b .roles s r hs hr;
+}
+
+-- one opening more, and one less, as words and as accesses
+module _ (S : State) (s o x : ℕ) where
+  here-or : (w : ℕ) (f : Bool → Bool → Bool) → ((b : Bool) → f false b ≡ b)
+      → ((q : ℕ) → q < 64 → has w q ≡ f (eqb q o) (has (S .holds s x) q))
+      → (p q y : ℕ) → q < 64
+      → has (upd (S .holds) s (upd (S .holds s) x w) p y) q ≡ f (eqb p s and eqb q o and eqb y x) (has (S .holds p y) q)
+  here-or w f z k p q y hq =
+      by-truth (eqb p s)
+      (λ b. by-truth (eqb y x)
+      (λ c.
+      let e = eqb-true p s b in
+      let e′ = eqb-true y x c in
+      ap₂ (λ (i j : ℕ). has (upd (S .holds) s (upd (S .holds s) x w) i j) q) e e′
+      ∙ ap (λ (v : ℕ). has v q) (grid-same (S .holds) s x w)
+      ∙ k q hq
+      ∙ ap₂ f
+      (sym (true-and _ b ∙ and-comm (eqb q o) (eqb y x) ∙ true-and _ c))
+      (sym (ap₂ (λ (i j : ℕ). has (S .holds i j) q) e e′)))
+      (λ c.
+      elsewhere
+      (by-upd (S .holds) s (upd (S .holds s) x w) (λ (g : ℕ → ℕ). g y ≡ S .holds p y) p
+      (λ e. upd-other (S .holds s) x w y (eqb-false y x c) ∙ sym (ap (λ (i : ℕ). S .holds i y) e)) (λ n. refl))
+      (and-false (eqb p s) (and-false (eqb q o) c))))
+      (λ b. elsewhere (ap (λ (g : ℕ → ℕ). g y) (upd-other (S .holds) s (upd (S .holds s) x w) p (eqb-false p s b))) (false-and _ b))
+    where
+      elsewhere : {v : ℕ} {b : Bool} → v ≡ S .holds p y → b ≡ false → has v q ≡ f b (has (S .holds p y) q)
+      elsewhere e n = ap (λ (u : ℕ). has u q) e ∙ sym (ap (λ (d : Bool). f d (has (S .holds p y) q)) n ∙ z _)
+
+  opened-sigma : Same (sigma (changed S (opens s o x))) (opened (sigma S) s o x)
+  unfolding sigma changed opened
+  opened-sigma = record {
+    m = λ p q y hp hq hy. here-or (S .holds s x with o) _or_ (λ b. false-or b refl) (λ q h. has-with (S .holds s x) o q h) p q y hq;
+    user = λ p hp. refl;
+    UA = λ u r hu hr. refl;
+    PA = λ y q r hy hq hr. refl;
+    roles = λ p r hp hr. refl;
+  }
+
+  closed-sigma : Same (sigma (changed S (closes s o x))) (closed (sigma S) s o x)
+  unfolding sigma changed closed
+  closed-sigma = record {
+    m = λ p q y hp hq hy. here-or (S .holds s x without o) (λ b c. not b and c) (λ b. true-and b refl) (λ q h. has-without (S .holds s x) o q h) p q y hq;
+    user = λ p hp. refl;
+    UA = λ u r hu hr. refl;
+    PA = λ y q r hy hq hr. refl;
+    roles = λ p r hp hr. refl;
+  }
+
+-- an opening or a closing with arguments in range, on a sound table
+module _ (t : List ℕ) (s o x : ℕ) (f : isSound t ≡ true) (hs : s < 32) (ho : o < 64) (hx : x < 8) where
+  open-passed : Passed t (ask 1 s o x)
+  unfolding isCode inRange limits within decode known _and_
+  open-passed = record {
+    table = sound-table t f;
+    is-sound = sound-state t f;
+    code = refl;
+    range = and-intro (le-leb s 31 (le-of-suc-le-suc hs)) (and-intro (le-leb o 63 (le-of-suc-le-suc ho)) (le-leb x 7 (le-of-suc-le-suc hx)));
+    is-known = refl;
+  }
+
+  close-passed : Passed t (ask 2 s o x)
+  unfolding isCode inRange limits within decode known _and_
+  close-passed = record {
+    table = sound-table t f;
+    is-sound = sound-state t f;
+    code = refl;
+    range = and-intro (le-leb s 31 (le-of-suc-le-suc hs)) (and-intro (le-leb o 63 (le-of-suc-le-suc ho)) (le-leb x 7 (le-of-suc-le-suc hx)));
+    is-known = refl;
+  }
+
+-- a yes and a no, here and there
+module _ (t : List ℕ) {o : Outcome (List ℕ)} {τ : Outcome Sigma} where
+  yes-one : (S : State) (σ : Sigma) → o ≡ record { answer = 1; spent = 1; state = encode S } → τ ≡ record { answer = 1; spent = 1; state = σ }
+      → Same (sigma S) σ → IsTableOne t o τ
+  yes-one S σ d e k = record {
+    decision = answer-of d ∙ sym (answer-of e);
+    next = subst (Same (sigma (state (o .state)))) (sym (state-of e)) (same-trans (same-sigma (rw (state-of d) (state-encode S))) k);
+  }
+
+  no-one : o ≡ record { answer = 0; spent = 1; state = t } → τ ≡ record { answer = 0; spent = 1; state = sigma (state t) } → IsTableOne t o τ
+  no-one d e = record {
+    decision = answer-of d ∙ sym (answer-of e);
+    next = subst (Same (sigma (state (o .state)))) (sym (state-of e)) (same-sigma (rw (state-of d) (agree-refl (state t))));
+  }
+
+pub open-is-table-one : OpenIsTableOne
+unfolding tauOpen allowed decode
+open-is-table-one t s o x f hs ho hx =
+    let p = open-passed t s o x f hs ho hx in
+    let S = state t in
+    let q = EP-effective S s x o hs hx ho in
+    by-truth (effective S s x o)
+    (λ a.
+    yes-one t (changed S (opens s o x)) (opened (sigma S) s o x)
+    (decided t (ask 1 s o x) p ∙ decide-yes 1 1 _ t a) (decide-yes 1 1 _ _ (q ∙ a)) (opened-sigma S s o x))
+    (λ a. no-one t (decided t (ask 1 s o x) p ∙ decide-no 1 1 _ t a) (decide-no 1 1 _ _ (q ∙ a)))
+
+pub close-is-table-one : CloseIsTableOne
+unfolding tauClose allowed decode
+close-is-table-one t s o x f hs ho hx =
+    yes-one t (changed (state t) (closes s o x)) (closed (sigma (state t)) s o x)
+    (decided t (ask 2 s o x) (close-passed t s o x f hs ho hx) ∙ decide-yes 1 1 _ t refl) (decide-yes 1 1 _ _ refl) (closed-sigma (state t) s o x)
+
+-- ---- what is there added, what is absent removed
+
+module _ (S : State) (f : Sound S) (w : Words S) where
+  -- the changed state is the same state
+  same-state : (r : Request) → Ranged r → idempotent S r ≡ true → Agree (changed S r) S
+  unfolding changed idempotent
+  same-state (opens s o x) h i = agree-own-holds S s (λ y l. upd-own (S .holds s) x _ (with-there (S .holds s x) o (w .holds-word s x) i) y)
+  same-state (closes s o x) h i = agree-own-holds S s (λ y l. upd-own (S .holds s) x _ (without-absent (S .holds s x) o (w .holds-word s x) (not-true _ i)) y)
+  same-state (starts s u) h i = clash i refl
+  same-state (ends s) h i = clash i refl
+  same-state (activates s r) h i = agree-own-active S s (with-there (S .active s) r (w .active-word s) i)
+  same-state (drops s r) h i = agree-own-active S s (without-absent (S .active s) r (w .active-word s) (not-true _ i))
+  same-state (assigns u r) h i = agree-own-assigned S u (with-there (S .assigned u) r (w .assigned-word u) i)
+  same-state (deassigns u r) h i = agree-own-assigned S u (without-absent (S .assigned u) r (w .assigned-word u) (not-true _ i))
+  same-state (grants r x o) h i = agree-own-granted S x o (with-there (S .granted x o) r (w .granted-word x o) i)
+  same-state (revokes r x o) h i = agree-own-granted S x o (without-absent (S .granted x o) r (w .granted-word x o) (not-true _ i))
+
+  -- and the answer is yes
+  is-allowed : (r : Request) → Ranged r → idempotent S r ≡ true → allowed S r ≡ true
+  unfolding allowed idempotent
+  is-allowed (opens s o x) h i = f .openings-effective s x o (h .0) (h .2) (h .1) i
+  is-allowed (closes s o x) h i = refl
+  is-allowed (starts s u) h i = clash i refl
+  is-allowed (ends s) h i = clash i refl
+  is-allowed (activates s r) h i = f .active-authorised s r (h .0) (h .1) i
+  is-allowed (drops s r) h i = sound-agree (same-state (drops s r) h i) ∙ sound-intro S f
+  is-allowed (assigns u r) h i = refl
+  is-allowed (deassigns u r) h i = sound-agree (same-state (deassigns u r) h i) ∙ sound-intro S f
+  is-allowed (grants r x o) h i = refl
+  is-allowed (revokes r x o) h i = sound-agree (same-state (revokes r x o) h i) ∙ sound-intro S f
+
+pub added-again : AddedAgain
+added-again t q w f c r k i =
+    let S = state t in
+    let p : Passed t q = record { table = sound-table t f; is-sound = sound-state t f; code = c; range = r; is-known = k } in
+    let v : Words S = record { assigned-word = λ u. w _; granted-word = λ x o. w _; active-word = λ s. w _; holds-word = λ s x. w _ } in
+    let g = sound-elim S (sound-state t f) in
+    let d = decided t q p ∙ decide-yes 1 1 _ t (is-allowed S g v (decode q) (in-reach t q p) i) in
+    record {
+      yes-answer = answer-of d;
+      same-table = state-of d ∙ encode-cong (same-state S g v (decode q) (in-reach t q p) i) ∙ sym (encode-state t (table-length t (p .table)));
+    }

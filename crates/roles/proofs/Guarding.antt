@@ -1,0 +1,105 @@
+-- The guard's refusals in their order, and what follows them. Assumes nothing.
+use Prim.Native.Nat.{ℕ, _≤_}
+use mathlib.Core.Path.{_≡_, refl, sym, ap, _∙_}
+use mathlib.Core.Bool.{Bool, true, false}
+use mathlib.Core.List.{List}
+use lib.ListN.{length}
+use Rattle.bits.proofs.Truth.{if-true, if-false, past, stopped}
+use Rattle.table.specs.State.{State}
+use Rattle.table.specs.Sound.{sound}
+use Rattle.table.specs.Table.{tableLength, isTable, state}
+use Rattle.table.proofs.Table.{is-table}
+use Rattle.roles.specs.Request.{Ask, ask, Outcome, refuse}
+use Rattle.roles.specs.Roles.{Request, isCode, inRange, decode, known, allowed}
+use Rattle.roles.specs.Guard.{served, checked, roleStep, allowedSound, soundStep}
+use Rattle.roles.specs.Served.{Fit, Served}
+use Rattle.roles.proofs.Codes.{is-code, ranged, Paired, paired}
+use Rattle.roles.proofs.Serving.{decide-yes, decide-no, served-known}
+
+module _ (test : State → Request → Bool) (t : List ℕ) (q : Ask) where
+  pub checked-code : isCode q ≡ false → checked test t q ≡ refuse 15 t
+  unfolding checked
+  checked-code c = stopped _ _ c
+
+  pub checked-argument : isCode q ≡ true → inRange q ≡ false → checked test t q ≡ refuse 16 t
+  unfolding checked
+  checked-argument c r = past _ _ c ∙ stopped _ _ r
+
+  pub checked-served : isCode q ≡ true → inRange q ≡ true → checked test t q ≡ served test t (decode q)
+  unfolding checked
+  checked-served c r = past _ _ c ∙ past _ _ r
+
+module _ (t : List ℕ) (q : Ask) where
+  pub sound-step-table : isTable t ≡ true → soundStep t q ≡ checked allowedSound t q
+  unfolding soundStep
+  sound-step-table i = past _ _ i
+
+  pub sound-step-short : isTable t ≡ false → soundStep t q ≡ refuse 12 t
+  unfolding soundStep
+  sound-step-short i = stopped _ _ i
+
+  pub sound-step-served : isTable t ≡ true → isCode q ≡ true → inRange q ≡ true → soundStep t q ≡ served allowedSound t (decode q)
+  sound-step-served i c r = sound-step-table i ∙ checked-served allowedSound t q c r
+
+  pub role-step-short : isTable t ≡ false → roleStep t q ≡ refuse 12 t
+  unfolding roleStep
+  role-step-short i = stopped _ _ i
+
+  pub role-step-unsound : isTable t ≡ true → sound (state t) ≡ false → roleStep t q ≡ refuse 13 t
+  unfolding roleStep
+  role-step-unsound i s = past _ _ i ∙ stopped _ _ s
+
+  pub role-step-sound : isTable t ≡ true → sound (state t) ≡ true → roleStep t q ≡ checked allowed t q
+  unfolding roleStep
+  role-step-sound i s = past _ _ i ∙ past _ _ s
+
+-- ---- as the code answers: the number and the table of an outcome
+
+-- the answer and the table of an outcome
+pub record Comes (t′ : List ℕ) (n : ℕ) (o : Outcome (List ℕ)) : Type 0 where
+  pub answer : n ≡ o .answer
+  pub table : t′ ≡ o .state
+
+pub comes-to : {t′ : List ℕ} {n : ℕ} {o o′ : Outcome (List ℕ)} → o ≡ o′ → Comes t′ n o′ → Comes t′ n o
+comes-to e c = record {
+  answer = c .answer ∙ sym (ap (λ (p : Outcome (List ℕ)). p .answer) e);
+  table = c .table ∙ sym (ap (λ (p : Outcome (List ℕ)). p .state) e);
+}
+
+pub refused : {t : List ℕ} {n : ℕ} → Comes t n (refuse n t)
+unfolding refuse
+refused = record { answer = refl; table = refl }
+
+module _ {t t′ : List ℕ} {q : Request} (k : known (state t) q ≡ true) {b : Bool} (s : Served t t′ b q) where
+  pub served-yes : b ≡ true → Comes t′ 1 (served allowedSound t q)
+  served-yes e =
+      comes-to (served-known allowedSound t q k ∙ decide-yes 1 1 _ t (sym (s .answer) ∙ e))
+      (record { answer = refl; table = s .table ∙ if-true _ _ e })
+
+  pub served-no : b ≡ false → Comes t′ 0 (served allowedSound t q)
+  served-no e =
+      comes-to (served-known allowedSound t q k ∙ decide-no 1 1 _ t (sym (s .answer) ∙ e))
+      (record { answer = refl; table = s .table ∙ if-false _ _ e })
+
+-- the two clauses of a contract
+pub both : {t′ : List ℕ} {n : ℕ} {o : Outcome (List ℕ)} → Comes t′ n o → (n ≡ o .answer) × (t′ ≡ o .state)
+both c = (c .answer, c .table)
+
+pub both-to : {t′ : List ℕ} {n : ℕ} {o o′ : Outcome (List ℕ)} → o ≡ o′ → (n ≡ o′ .answer) × (t′ ≡ o′ .state) → (n ≡ o .answer) × (t′ ≡ o .state)
+both-to e c = both (comes-to e (record { answer = c .0; table = c .1 }))
+
+-- ---- past refusals 12, 15 and 16
+
+pub record Ready (t : List ℕ) (code a b c : ℕ) : Type 0 where
+  pub fit : Fit t (decode (ask code a b c))
+  pub pair : Paired (state t) code a b c
+  pub step : soundStep t (ask code a b c) ≡ served allowedSound t (decode (ask code a b c))
+
+pub ready : (t : List ℕ) (code a b c : ℕ) → length t ≡ tableLength → 1 ≤ code → code ≤ 10 → inRange (ask code a b c) ≡ true → Ready t code a b c
+ready t code a b c e l h i =
+    let r = ranged code a b c l h i in
+    record {
+      fit = record { whole = e; ranged = r };
+      pair = paired (state t) code a b c l h r;
+      step = sound-step-served t (ask code a b c) (is-table t e) (is-code (ask code a b c) l h) i;
+    }

@@ -1,0 +1,80 @@
+-- A yes keeps a sound state sound. Assumes nothing.
+use Prim.Native.Nat.{ℕ, suc, _<_}
+use mathlib.Core.Path.{_≡_, refl, sym, ap, _∙_}
+use mathlib.Core.Bool.{true}
+use Rattle.bits.specs.Sets.{has, _with_, _without_}
+use Rattle.bits.proofs.Truth.{clash}
+use Rattle.bits.proofs.Word.{has-zero, with-elim, with-old, without-old, without-none}
+use Rattle.bits.proofs.Members.{not-empty}
+use Rattle.table.specs.State.{State, idle, permission, mayActivate, effective, upd, withAssigned, withGranted, withOwner, withActive, withHolds}
+use Rattle.table.specs.Sound.{Sound}
+use Rattle.table.proofs.Sound.{sound-elim}
+use Rattle.table.proofs.State.{may-activate-idle, may-activate-user}
+use Rattle.table.proofs.Agree.{upd-same, by-upd, grid-same}
+use Rattle.table.proofs.Keeps.{no-roles-none-effective, authorised-more, effective-more, holds-keeps, active-keeps, assigned-keeps, granted-keeps, start-keeps, end-keeps}
+use Rattle.roles.specs.Roles.{Request, opens, closes, starts, ends, activates, drops, assigns, deassigns, grants, revokes, known, allowed, changed}
+use Rattle.roles.specs.Served.{Ranged}
+
+module _ (S : State) (f : Sound S) where
+  open-keeps : (s o x : ℕ) → s < 32 → o < 64 → x < 8 → effective S s x o ≡ true → Sound (withHolds S s (upd (S .holds s) x (S .holds s x with o)))
+  open-keeps s o x hs ho hx e =
+      holds-keeps S f s _
+      (λ y p hy hp m. by-upd (S .holds s) x (S .holds s x with o) (λ (w : ℕ). has w p ≡ true → effective S s y p ≡ true) y
+      (λ q n. ap (λ (z : ℕ). effective S s z p) q ∙ with-elim (S .holds s x) o p hp n
+      (λ j. ap (effective S s x) j ∙ e)
+      (λ k. f .openings-effective s x p hs hx hp k))
+      (λ q n. f .openings-effective s y p hs hy hp n) m)
+      (λ y hy i. absurd (no-roles-none-effective S s x o (f .idle-no-roles s hs i) e))
+
+  close-keeps : (s o x : ℕ) → s < 32 → x < 8 → Sound (withHolds S s (upd (S .holds s) x (S .holds s x without o)))
+  close-keeps s o x hs hx =
+      holds-keeps S f s _
+      (λ y p hy hp m. by-upd (S .holds s) x (S .holds s x without o) (λ (w : ℕ). has w p ≡ true → effective S s y p ≡ true) y
+      (λ q n. ap (λ (z : ℕ). effective S s z p) q ∙ f .openings-effective s x p hs hx hp (without-old (S .holds s x) o p hp n))
+      (λ q n. f .openings-effective s y p hs hy hp n) m)
+      (λ y hy i. by-upd (S .holds s) x (S .holds s x without o) (λ (w : ℕ). w ≡ 0) y
+      (λ q. ap (λ (w : ℕ). w without o) (f .idle-no-openings s x hs hx i) ∙ without-none o)
+      (λ q. f .idle-no-openings s y hs hy i))
+
+  activate-keeps : (s r : ℕ) → s < 32 → r < 64 → mayActivate S s r ≡ true → Sound (withActive S s (S .active s with r))
+  activate-keeps s r hs hr e =
+      active-keeps S f s (S .active s with r)
+      (λ q hq m. with-elim (S .active s) r q hq m (λ j. ap (mayActivate S s) j ∙ e) (λ k. f .active-authorised s q hs hq k))
+      (λ i. clash e (may-activate-idle S s r i))
+      (λ x o hx ho m. effective-more S _ refl s x o refl (λ q hq k. k)
+      (λ q hq k. ap (λ (w : ℕ). has w q) (upd-same (S .active) s (S .active s with r)) ∙ with-old (S .active s) r q hq k)
+      (f .openings-effective s x o hs hx ho m))
+
+  assign-keeps : (u r : ℕ) → u < 64 → Sound (withAssigned S u (S .assigned u with r))
+  assign-keeps u r hu =
+      assigned-keeps S f u (S .assigned u with r)
+      (λ s q hs hq o m. authorised-more S _ refl u q
+      (λ p hp k. ap (λ (w : ℕ). has w p) (upd-same (S .assigned) u (S .assigned u with r)) ∙ with-old (S .assigned u) r p hp k)
+      (sym (may-activate-user S s u q o) ∙ f .active-authorised s q hs hq m))
+
+  grant-keeps : (r x o : ℕ) → x < 8 → o < 64 → permission S x o ≡ true → Sound (withGranted S x o (S .granted x o with r))
+  grant-keeps r x o hx ho p =
+      granted-keeps S f x o (S .granted x o with r) (λ q hq m. p)
+      (λ s hs m. effective-more S _ refl s x o refl
+      (λ q hq k. ap (λ (w : ℕ). has w q) (grid-same (S .granted) x o (S .granted x o with r)) ∙ with-old (S .granted x o) r q hq k)
+      (λ q hq k. k)
+      (f .openings-effective s x o hs hx ho m))
+
+  started : (s u : ℕ) → s < 32 → u < 64 → idle S s ≡ true → Sound (withActive (withOwner S s (suc u)) s 0)
+  started s u hs hu i =
+      active-keeps _ (start-keeps S f s u hs hu i) s 0
+      (λ r hr m. clash m (has-zero r)) (λ z. refl)
+      (λ x o hx ho m. absurd (not-empty (S .holds s x) o m (f .idle-no-openings s x hs hx i)))
+
+pub changed-sound : (S : State) → Sound S → (r : Request) → Ranged r → known S r ≡ true → allowed S r ≡ true → Sound (changed S r)
+unfolding known allowed changed
+changed-sound S f (opens s o x) h k a = open-keeps S f s o x (h .0) (h .1) (h .2) a
+changed-sound S f (closes s o x) h k a = close-keeps S f s o x (h .0) (h .2)
+changed-sound S f (starts s u) h k a = started S f s u (h .0) (h .1) a
+changed-sound S f (ends s) h k a = end-keeps S f s
+changed-sound S f (activates s r) h k a = activate-keeps S f s r (h .0) (h .1) a
+changed-sound S f (drops s r) h k a = sound-elim _ a
+changed-sound S f (assigns u r) h k a = assign-keeps S f u r (h .0)
+changed-sound S f (deassigns u r) h k a = sound-elim _ a
+changed-sound S f (grants r x o) h k a = grant-keeps S f r x o (h .1) (h .2) k
+changed-sound S f (revokes r x o) h k a = sound-elim _ a

@@ -1,0 +1,9 @@
+-- The crate's laws, in reading order.
+pub mod Serving
+pub mod Closing
+pub mod Codes
+pub mod Guarding
+pub mod Same
+pub mod Keeping
+pub mod Steps
+pub mod Claims

@@ -1,0 +1,141 @@
+-- What a role request comes to: the refusals apart, a decision by the definitions. Assumes nothing.
+use Prim.Native.Nat.{ℕ, _<_}
+use mathlib.Core.Path.{_≡_, refl, ap, ap₂, _∙_}
+use mathlib.Core.Bool.{Bool, true, not}
+use mathlib.Core.List.{List}
+use native.Mathlib.Omega.{arith}
+use Rattle.bits.specs.Sets.{_with_, _without_}
+use Rattle.bits.proofs.Truth.{by-truth}
+use Rattle.table.specs.State.{State}
+use Rattle.table.specs.Sound.{sound, Sound}
+use Rattle.table.specs.Table.{isTable, state, encode}
+use Rattle.table.proofs.Sound.{sound-elim, sound-intro}
+use Rattle.table.proofs.Agree.{Agree, agree-sym, idle-agree, permission-agree, may-activate-agree, effective-agree, sound-agree, agree-sound, upd-agree, agree-with-holds, agree-with-active, agree-with-owner, agree-with-assigned, agree-with-granted}
+use Rattle.table.proofs.Encode.{state-encode, encode-cong}
+use Rattle.sound.specs.Answers.{isSound}
+use Rattle.sound.proofs.Answers.{sound-state, sound-table, shown-sound}
+use Rattle.roles.specs.Request.{Ask, Outcome, refuse, decide}
+use Rattle.roles.specs.Roles.{Request, opens, closes, starts, ends, activates, drops, assigns, deassigns, grants, revokes, isCode, inRange, decode, known, allowed, changed}
+use Rattle.roles.specs.Guard.{roleStep, soundStep}
+use Rattle.roles.specs.Served.{Ranged}
+use Rattle.roles.proofs.Serving.{decide-yes, decide-no, served-known, served-unknown}
+use Rattle.roles.proofs.Codes.{is-code-elim, ranged}
+use Rattle.roles.proofs.Guarding.{checked-code, checked-argument, checked-served, role-step-short, role-step-unsound, role-step-sound}
+use Rattle.roles.proofs.Same.{step-same}
+use Rattle.roles.proofs.Keeping.{changed-sound}
+
+-- ---- on any list
+
+-- what a request that meets no refusal has passed
+pub record Passed (t : List ℕ) (q : Ask) : Type 0 where
+  pub table : isTable t ≡ true
+  pub is-sound : sound (state t) ≡ true
+  pub code : isCode q ≡ true
+  pub range : inRange q ≡ true
+  pub is-known : known (state t) (decode q) ≡ true
+
+module _ (t : List ℕ) (q : Ask) where
+  pub by-step : {A : Type 0} → ((n : ℕ) → 1 < n → roleStep t q ≡ refuse n t → A) → (Passed t q → A) → A
+  by-step f g =
+      by-truth (isTable t)
+      (λ i. by-truth (sound (state t))
+      (λ s.
+      let e = role-step-sound t q i s in
+      by-truth (isCode q)
+      (λ c. by-truth (inRange q)
+      (λ r.
+      let d = e ∙ checked-served allowed t q c r in
+      by-truth (known (state t) (decode q))
+      (λ k. g (record { table = i; is-sound = s; code = c; range = r; is-known = k }))
+      (λ k. f 17 (omega arith) (d ∙ served-unknown allowed t (decode q) k)))
+      (λ r. f 16 (omega arith) (e ∙ checked-argument allowed t q c r)))
+      (λ c. f 15 (omega arith) (e ∙ checked-code allowed t q c)))
+      (λ s. f 13 (omega arith) (role-step-unsound t q i s)))
+      (λ i. f 12 (omega arith) (role-step-short t q i))
+
+  pub decided : Passed t q → roleStep t q ≡ decide (allowed (state t) (decode q)) 1 1 (encode (changed (state t) (decode q))) t
+  decided p =
+      role-step-sound t q (p .table) (p .is-sound)
+      ∙ checked-served allowed t q (p .code) (p .range)
+      ∙ served-known allowed t (decode q) (p .is-known)
+
+  pub in-reach : Passed t q → Ranged (decode q)
+  in-reach p = let k = is-code-elim q (p .code) in ranged (q .code) (q .a) (q .b) (q .c) (k .0) (k .1) (p .range)
+
+  -- a sound table stays sound
+  pub step-sound : isSound t ≡ true → isSound (roleStep t q .state) ≡ true
+  unfolding refuse
+  step-sound s =
+      by-step
+      (λ n h e. ap (λ (o : Outcome (List ℕ)). isSound (o .state)) e ∙ s)
+      (λ p. by-truth (allowed (state t) (decode q))
+      (λ a.
+      shown-sound (changed (state t) (decode q)) (ap (λ (o : Outcome (List ℕ)). o .state) (decided p ∙ decide-yes 1 1 _ t a))
+      ∙ sound-intro _ (changed-sound (state t) (sound-elim (state t) (p .is-sound)) (decode q) (in-reach p) (p .is-known) a))
+      (λ a. ap (λ (o : Outcome (List ℕ)). isSound (o .state)) (decided p ∙ decide-no 1 1 _ t a) ∙ s))
+
+-- ---- on the table of a state
+
+module _ {S S′ : State} (a : Agree S S′) where
+  changed-agree : (r : Request) → Ranged r → Agree (changed S r) (changed S′ r)
+  unfolding changed
+  changed-agree (opens s o x) h = agree-with-holds a s (λ y l. upd-agree (S .holds s) (S′ .holds s) x y (ap (λ (w : ℕ). w with o) (a .holds s x (h .0) (h .2))) (a .holds s y (h .0) l))
+  changed-agree (closes s o x) h = agree-with-holds a s (λ y l. upd-agree (S .holds s) (S′ .holds s) x y (ap (λ (w : ℕ). w without o) (a .holds s x (h .0) (h .2))) (a .holds s y (h .0) l))
+  changed-agree (starts s u) h = agree-with-active (agree-with-owner a s refl) s refl
+  changed-agree (ends s) h = agree-with-holds (agree-with-active (agree-with-owner a s refl) s refl) s (λ x l. refl)
+  changed-agree (activates s r) h = agree-with-active a s (ap (λ (w : ℕ). w with r) (a .active s (h .0)))
+  changed-agree (drops s r) h = agree-with-active a s (ap (λ (w : ℕ). w without r) (a .active s (h .0)))
+  changed-agree (assigns u r) h = agree-with-assigned a u (ap (λ (w : ℕ). w with r) (a .assigned u (h .0)))
+  changed-agree (deassigns u r) h = agree-with-assigned a u (ap (λ (w : ℕ). w without r) (a .assigned u (h .0)))
+  changed-agree (grants r x o) h = agree-with-granted a x o (ap (λ (w : ℕ). w with r) (a .granted x o (h .1) (h .2)))
+  changed-agree (revokes r x o) h = agree-with-granted a x o (ap (λ (w : ℕ). w without r) (a .granted x o (h .1) (h .2)))
+
+  allowed-agree : Sound S → (r : Request) → Ranged r → allowed S r ≡ allowed S′ r
+  unfolding allowed
+  allowed-agree f (opens s o x) h = effective-agree a s x o (h .0) (h .2) (h .1)
+  allowed-agree f (closes s o x) h = refl
+  allowed-agree f (starts s u) h = idle-agree a s (h .0)
+  allowed-agree f (ends s) h = ap not (idle-agree a s h)
+  allowed-agree f (activates s r) h = may-activate-agree a s r (h .0) (f .owners-known s (h .0))
+  allowed-agree f (drops s r) h = sound-agree (changed-agree (drops s r) h)
+  allowed-agree f (assigns u r) h = refl
+  allowed-agree f (deassigns u r) h = sound-agree (changed-agree (deassigns u r) h)
+  allowed-agree f (grants r x o) h = refl
+  allowed-agree f (revokes r x o) h = sound-agree (changed-agree (revokes r x o) h)
+
+  known-agree : (r : Request) → Ranged r → known S r ≡ known S′ r
+  unfolding known
+  known-agree (opens s o x) h = refl
+  known-agree (closes s o x) h = refl
+  known-agree (starts s u) h = refl
+  known-agree (ends s) h = refl
+  known-agree (activates s r) h = refl
+  known-agree (drops s r) h = refl
+  known-agree (assigns u r) h = refl
+  known-agree (deassigns u r) h = refl
+  known-agree (grants r x o) h = permission-agree a x o (h .1)
+  known-agree (revokes r x o) h = permission-agree a x o (h .1)
+
+-- a request on the table of a sound state, with a code and arguments in range, that names a permission where it grants or revokes
+module _ (S : State) (f : Sound S) (q : Ask) (c : isCode q ≡ true) (r : inRange q ≡ true) where
+  table-sound : isSound (encode S) ≡ true
+  table-sound = shown-sound S refl ∙ sound-intro S f
+
+  reach : Ranged (decode q)
+  reach = let k = is-code-elim q c in ranged (q .code) (q .a) (q .b) (q .c) (k .0) (k .1) r
+
+  pub step-encode : known S (decode q) ≡ true → roleStep (encode S) q ≡ decide (allowed S (decode q)) 1 1 (encode (changed S (decode q))) (encode S)
+  step-encode k =
+      let a = state-encode S in
+      decided (encode S) q (record {
+        table = sound-table (encode S) table-sound;
+        is-sound = sound-state (encode S) table-sound;
+        code = c;
+        range = r;
+        is-known = known-agree a (decode q) reach ∙ k;
+      })
+      ∙ ap₂ (λ (b : Bool) (t : List ℕ). decide b 1 1 t (encode S))
+      (allowed-agree a (agree-sound (agree-sym a) f) (decode q) reach) (encode-cong (changed-agree a (decode q) reach))
+
+  pub sound-step-encode : soundStep (encode S) q ≡ roleStep (encode S) q
+  sound-step-encode = step-same (encode S) q (sound-table (encode S) table-sound) (sound-state (encode S) table-sound)

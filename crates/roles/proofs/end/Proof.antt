@@ -1,0 +1,54 @@
+-- `end` meets its contract. Assumes nothing.
+use borrow.Author.Needs.{needs}
+use mathlib.Core.Path.{refl, ap, _∙_}
+use mathlib.Core.Bool.{not}
+use native.Mathlib.Omega.{arith}
+use lib.ListN.{length-set}
+use borrow.Author.Tests.{eq-eqb, ne-eqb}
+use Rattle.bits.proofs.Truth.{not-intro}
+use Rattle.table.specs.Table.{state}
+use Rattle.table.proofs.Encode.{encode-state, write-owner, write-active}
+use Rattle.roles.specs.Roles.{changed}
+use Rattle.roles.specs.Guard.{allowedSound}
+use Rattle.roles.proofs.Serving.{serve-yes, serve-no}
+use Rattle.roles.proofs.Closing.{closed-all}
+use Rattle.roles.proofs.end.Statement.{statement}
+use Rattle.roles.proofs.end.Tie as tie
+
+returns : tie.Need-returns
+unfolding allowedSound
+returns c = serve-no (ap not (eq-eqb _ 0 (c .if1 .taken))) refl
+
+returns-2 : tie.Need-returns-2
+unfolding allowedSound changed
+returns-2 c =
+    let done = c .before .before in
+    let told = done .before .before in
+    let start = told .before .before .before in
+    let a = start .args in
+    let p = start .pre in
+    serve-yes (not-intro (ne-eqb _ 0 (told .if1 .left)))
+    (done .close-all .ensures
+    ∙ closed-all _ (a .s)
+    (write-active _ (write-owner (state (a .t .now)) (encode-state (a .t .now) (p .whole)) (a .s) 0 (p .ranged)) (a .s) 0 (p .ranged)))
+
+same-length : tie.Need-same-length
+same-length c = c .before .before .close-all .kept .0 ∙ simp length-set
+
+pub end-spec : {M : Type 1} → statement M
+end-spec =
+    tie.close
+    (tie.spec
+    (λ c. search needs)
+    (λ c. search needs)
+    (λ c. search needs)
+    returns
+    (λ c. search needs)
+    (λ c. search needs)
+    (λ c. search needs)
+    (λ c. search needs)
+    (λ c. search needs)
+    (λ c. simp length-set (omega arith))
+    (λ c κs. search needs)
+    same-length
+    returns-2)

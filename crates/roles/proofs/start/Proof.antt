@@ -1,0 +1,49 @@
+-- `start` meets its contract. Assumes nothing.
+use borrow.Author.Needs.{needs}
+use Prim.Native.Nat.{ℕ}
+use mathlib.Core.Path.{refl, ap, _∙_}
+use native.Mathlib.Numerals.{add-one}
+use native.Mathlib.Omega.{arith}
+use lib.ListN.{set, length-set}
+use borrow.Author.Tests.{eq-eqb, ne-eqb}
+use Rattle.table.specs.Table.{ownerAt, state}
+use Rattle.table.proofs.Encode.{encode-state, write-owner, write-active}
+use Rattle.roles.specs.Roles.{changed}
+use Rattle.roles.specs.Guard.{allowedSound}
+use Rattle.roles.proofs.Serving.{serve-yes, serve-no}
+use Rattle.roles.proofs.start.Statement.{statement}
+use Rattle.roles.proofs.start.Tie as tie
+
+returns : tie.Need-returns
+unfolding allowedSound
+returns c = serve-no (ne-eqb _ 0 (c .if1 .taken)) refl
+
+returns-2 : tie.Need-returns-2
+unfolding allowedSound changed
+returns-2 c =
+    let start = c .before .before in
+    let a = start .args in
+    let p = start .pre in
+    serve-yes (eq-eqb _ 0 (c .if1 .left))
+    (write-active _
+    (ap (λ (w : ℕ). set (a .t .now) (ownerAt (a .s)) w) (add-one (a .u))
+    ∙ write-owner (state (a .t .now)) (encode-state (a .t .now) (p .whole)) (a .s) _ (p .ranged .0))
+    (a .s) 0 (p .ranged .0))
+
+pub start-spec : {M : Type 1} → statement M
+start-spec =
+    tie.close
+    (tie.spec
+    (λ c. search needs)
+    (λ c. search needs)
+    (λ c. search needs)
+    returns
+    (λ c. search needs)
+    (λ c. search needs)
+    (λ c. search needs)
+    (λ c. search needs)
+    (λ c. search needs)
+    (λ c. search needs)
+    (λ c. simp length-set (omega arith))
+    (λ c. search needs)
+    returns-2)

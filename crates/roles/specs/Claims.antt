@@ -1,0 +1,68 @@
+-- What is claimed of the role guard, each as the answer to a question. proofs/Claims.antt proves them.
+use Prim.Native.Nat.{ℕ, _^_, _<_}
+use mathlib.Core.Path.{_≡_}
+use mathlib.Core.Bool.{Bool, true, false, not}
+use mathlib.Core.List.{List, [], _∷_}
+use Rattle.bits.specs.Sets.{has}
+use Rattle.table.specs.State.{State, senior, permission}
+use Rattle.table.specs.Table.{word, state}
+use Rattle.sound.specs.Answers.{isSound}
+use Rattle.roles.specs.Request.{Ask, ask, Outcome}
+use Rattle.roles.specs.Roles.{Request, opens, closes, starts, ends, activates, drops, assigns, deassigns, grants, revokes, isCode, inRange, decode, known}
+use Rattle.roles.specs.Guard.{roleStep, soundStep}
+use Rattle.roles.specs.Source.{Sigma, sigma, tauOpen, tauClose, Same}
+
+-- Does a no or a refusal change the table? Not one word, of a list of any length and contents.
+abbrev pub Unchanged : Type 0
+Unchanged = (t : List ℕ) (q : Ask) → (roleStep t q .answer ≡ 1 → ⊥) → roleStep t q .state ≡ t
+
+-- Does a sound table stay sound? Under any list of requests, refused ones included.
+unfoldable pub after : List ℕ → List Ask → List ℕ
+after t [] = t
+after t (q ∷ qs) = after (roleStep t q .state) qs
+
+abbrev pub KeptSound : Type 0
+KeptSound = (t : List ℕ) (qs : List Ask) → isSound t ≡ true → isSound (after t qs) ≡ true
+
+-- Does it matter that `serve` leaves the soundness test out? Not on a sound table.
+abbrev pub ServedSame : Type 0
+ServedSame = (t : List ℕ) (q : Ask) → isSound t ≡ true → soundStep t q ≡ roleStep t q
+
+-- Are an opening and a closing what table 1 of source 000 says? The answer is its decision, and the state that the table
+-- then shows is its next state.
+pub record IsTableOne (t : List ℕ) (o : Outcome (List ℕ)) (τ : Outcome Sigma) : Type 0 where
+  pub decision : o .answer ≡ τ .answer
+  pub next : Same (sigma (state (o .state))) (τ .state)
+
+abbrev pub OpenIsTableOne : Type 0
+OpenIsTableOne =
+    (t : List ℕ) (s o x : ℕ) → isSound t ≡ true → s < 32 → o < 64 → x < 8
+    → IsTableOne t (roleStep t (ask 1 s o x)) (tauOpen (permission (state t)) (senior (state t)) (sigma (state t)) s o x)
+
+abbrev pub CloseIsTableOne : Type 0
+CloseIsTableOne =
+    (t : List ℕ) (s o x : ℕ) → isSound t ≡ true → s < 32 → o < 64 → x < 8
+    → IsTableOne t (roleStep t (ask 2 s o x)) (tauClose (sigma (state t)) s o x)
+
+-- what the request adds is there, or what it removes is absent
+unfoldable pub idempotent : State → Request → Bool
+idempotent S (opens s o x) = has (S .holds s x) o
+idempotent S (closes s o x) = not (has (S .holds s x) o)
+idempotent S (starts s u) = false
+idempotent S (ends s) = false
+idempotent S (activates s r) = has (S .active s) r
+idempotent S (drops s r) = not (has (S .active s) r)
+idempotent S (assigns u r) = has (S .assigned u) r
+idempotent S (deassigns u r) = not (has (S .assigned u) r)
+idempotent S (grants r x o) = has (S .granted x o) r
+idempotent S (revokes r x o) = not (has (S .granted x o) r)
+
+-- 01: "What is there already may be added again, and what is absent removed, with yes and no change."
+pub record NoChange (t : List ℕ) (o : Outcome (List ℕ)) : Type 0 where
+  pub yes-answer : o .answer ≡ 1
+  pub same-table : o .state ≡ t
+
+abbrev pub AddedAgain : Type 0
+AddedAgain =
+    (t : List ℕ) (q : Ask) → ((i : ℕ) → word t i < 2 ^ 64) → isSound t ≡ true → isCode q ≡ true → inRange q ≡ true
+    → known (state t) (decode q) ≡ true → idempotent (state t) (decode q) ≡ true → NoChange t (roleStep t q)

@@ -1,0 +1,43 @@
+-- What the private functions, one for each request, take and answer. No promise rests on this page.
+use Prim.Native.Nat.{ℕ, _<_}
+use mathlib.Core.Path.{_≡_}
+use mathlib.Core.Bool.{Bool, true}
+use mathlib.Core.List.{List}
+use lib.Dec.{ltb}
+use lib.ListN.{length}
+use Rattle.bits.specs.Truth.{if_then_else_}
+use Rattle.table.specs.State.{State, permission, withHolds}
+use Rattle.table.specs.Table.{tableLength, state, encode}
+use Rattle.roles.specs.Roles.{Request, opens, closes, starts, ends, activates, drops, assigns, deassigns, grants, revokes, changed}
+use Rattle.roles.specs.Guard.{allowedSound}
+
+-- the users, roles, objects, sessions and modes that a request names are there
+abbrev pub Ranged : Request → Type 0
+Ranged (opens s o x) = (s < 32) × (o < 64) × (x < 8)
+Ranged (closes s o x) = (s < 32) × (o < 64) × (x < 8)
+Ranged (starts s u) = (s < 32) × (u < 64)
+Ranged (ends s) = s < 32
+Ranged (activates s r) = (s < 32) × (r < 64)
+Ranged (drops s r) = (s < 32) × (r < 64)
+Ranged (assigns u r) = (u < 64) × (r < 64)
+Ranged (deassigns u r) = (u < 64) × (r < 64)
+Ranged (grants r x o) = (r < 64) × (x < 8) × (o < 64)
+Ranged (revokes r x o) = (r < 64) × (x < 8) × (o < 64)
+
+-- a table and a request on what is there
+pub record Fit (t : List ℕ) (q : Request) : Type 0 where
+  pub whole : length t ≡ tableLength
+  pub ranged : Ranged q
+
+-- the pair (x, o) of a grant or revoke is a permission
+unfoldable pub pairKnown : State → ℕ → ℕ → ℕ → Bool
+pairKnown S code x o = if ltb code 9 then true else permission S x o
+
+-- yes or no and the table t′ are what the request on t comes to, where t is known to be sound and no refusal fits
+pub record Served (t t′ : List ℕ) (yes : Bool) (q : Request) : Type 0 where
+  pub answer : yes ≡ allowedSound (state t) q
+  pub table : t′ ≡ (if yes then encode (changed (state t) q) else t)
+
+-- the table with nothing held open by session s
+unfoldable pub closedAll : List ℕ → ℕ → List ℕ
+closedAll t s = encode (withHolds (state t) s (λ x. 0))

@@ -1,0 +1,309 @@
+// The role guard: ten requests on a lent table.
+use table::layout::ACTIVE;
+use table::layout::ASSIGNED;
+use table::layout::GRANTED;
+use table::layout::HOLDS;
+use table::layout::OWNER;
+use table::layout::PERMITTED;
+use table::layout::WORDS;
+ghost use mathlib.Core.Path.{_≡_};
+ghost use Prim.Native.Nat.{_-_, _≤_, _<_};
+ghost use mathlib.Core.List.{[]};
+ghost use lib.ListN.{length, getD};
+ghost use Rattle.table.specs.Table.{state};
+ghost use Rattle.roles.specs.Request.{ask};
+ghost use Rattle.roles.specs.Roles.{opens, closes, starts, ends, activates, drops, assigns, deassigns, grants, revokes, limits, inRange, decode};
+ghost use Rattle.roles.specs.Guard.{roleStep, soundStep};
+ghost use Rattle.roles.specs.Answer.{refusalNumber, numberOf};
+ghost use Rattle.roles.specs.Served.{Fit, Served, pairKnown, closedAll};
+
+// Why a request or a set-up is refused.
+pub enum Refusal {
+    WrongLength,
+    Unsound,
+    NoImage,
+    BadCode,
+    BadArgument,
+    NoPermission,
+    BadListLength,
+    BadValue,
+    Cycle,
+}
+
+pub enum Answer {
+    Yes,
+    No,
+    Refused(Refusal),
+}
+
+// The number of a refusal.
+pub fn refusal_number(r: Refusal) -> u64
+    ensures { λ n. ⌜ n ≡ refusalNumber r ⌝ }
+{
+    match r {
+        Refusal::WrongLength => 12,
+        Refusal::Unsound => 13,
+        Refusal::NoImage => 14,
+        Refusal::BadCode => 15,
+        Refusal::BadArgument => 16,
+        Refusal::NoPermission => 17,
+        Refusal::BadListLength => 18,
+        Refusal::BadValue => 19,
+        Refusal::Cycle => 20,
+    }
+}
+
+// The number of an answer.
+pub fn number(a: Answer) -> u64
+    ensures { λ n. ⌜ n ≡ numberOf a ⌝ }
+{
+    match a {
+        Answer::Yes => 1,
+        Answer::No => 0,
+        Answer::Refused(r) => refusal_number(r),
+    }
+}
+
+// Session s opens object o in mode x.
+fn open(t: &mut [u64], s: usize, o: usize, x: usize) -> bool
+    requires { ⌜ Fit (now t) (opens s o x) ⌝ }
+    ensures { λ r. ⌜ Served (now (t .entry)) (now (t .exit)) r (opens s o x) ⌝ }
+{
+    if !table::is_effective(t, s, x, o) {
+        return false;
+    }
+    let at = HOLDS + 8 * s + x;
+    t[at] = bits::with(t[at], o);
+    true
+}
+
+// Session s closes object o in mode x.
+fn close(t: &mut [u64], s: usize, o: usize, x: usize) -> bool
+    requires { ⌜ Fit (now t) (closes s o x) ⌝ }
+    ensures { λ r. ⌜ Served (now (t .entry)) (now (t .exit)) r (closes s o x) ⌝ }
+{
+    let at = HOLDS + 8 * s + x;
+    t[at] = bits::without(t[at], o);
+    true
+}
+
+// The idle session s is given to user u, without roles.
+fn start(t: &mut [u64], s: usize, u: usize) -> bool
+    requires { ⌜ Fit (now t) (starts s u) ⌝ }
+    ensures { λ r. ⌜ Served (now (t .entry)) (now (t .exit)) r (starts s u) ⌝ }
+{
+    if t[OWNER + s] != 0 {
+        return false;
+    }
+    t[OWNER + s] = u as u64 + 1;
+    t[ACTIVE + s] = 0;
+    true
+}
+
+// Session s holds nothing open.
+fn close_all(t: &mut [u64], s: usize)
+    requires { ⌜ (length (now t) ≡ 968) × (s < 32) ⌝ }
+    ensures { λ r. ⌜ now (t .exit) ≡ closedAll (now (t .entry)) s ⌝ }
+{
+    for x in 0..8 {
+        t[HOLDS + 8 * s + x] = 0;
+    }
+}
+
+// Session s is made idle, without roles and openings.
+fn end(t: &mut [u64], s: usize) -> bool
+    requires { ⌜ Fit (now t) (ends s) ⌝ }
+    ensures { λ r. ⌜ Served (now (t .entry)) (now (t .exit)) r (ends s) ⌝ }
+{
+    if t[OWNER + s] == 0 {
+        return false;
+    }
+    t[OWNER + s] = 0;
+    t[ACTIVE + s] = 0;
+    close_all(t, s);
+    true
+}
+
+// Role r becomes active in session s.
+fn activate(t: &mut [u64], s: usize, r: usize) -> bool
+    requires { ⌜ Fit (now t) (activates s r) ⌝ }
+    ensures { λ a. ⌜ Served (now (t .entry)) (now (t .exit)) a (activates s r) ⌝ }
+{
+    if !table::may_activate(t, s, r) {
+        return false;
+    }
+    t[ACTIVE + s] = bits::with(t[ACTIVE + s], r);
+    true
+}
+
+// Role r is no longer active in session s; put back where something that s holds would not be effective.
+fn drop(t: &mut [u64], s: usize, r: usize) -> bool
+    requires { ⌜ Fit (now t) (drops s r) ⌝ }
+    ensures { λ a. ⌜ Served (now (t .entry)) (now (t .exit)) a (drops s r) ⌝ }
+{
+    let old = t[ACTIVE + s];
+    let less = bits::without(old, r);
+    t[ACTIVE + s] = less;
+    if sound::openings_fit(t, s) {
+        return true;
+    }
+    t[ACTIVE + s] = old;
+    false
+}
+
+// Role r is assigned to user u.
+fn assign(t: &mut [u64], u: usize, r: usize) -> bool
+    requires { ⌜ Fit (now t) (assigns u r) ⌝ }
+    ensures { λ a. ⌜ Served (now (t .entry)) (now (t .exit)) a (assigns u r) ⌝ }
+{
+    t[ASSIGNED + u] = bits::with(t[ASSIGNED + u], r);
+    true
+}
+
+// Role r is no longer assigned to user u; put back where a role active in a session of u would not be authorised.
+fn deassign(t: &mut [u64], u: usize, r: usize) -> bool
+    requires { ⌜ Fit (now t) (deassigns u r) ⌝ }
+    ensures { λ a. ⌜ Served (now (t .entry)) (now (t .exit)) a (deassigns u r) ⌝ }
+{
+    let old = t[ASSIGNED + u];
+    let less = bits::without(old, r);
+    t[ASSIGNED + u] = less;
+    if sound::sessions_fit(t, u) {
+        return true;
+    }
+    t[ASSIGNED + u] = old;
+    false
+}
+
+// Role r is granted (x, o), a permission.
+fn grant(t: &mut [u64], r: usize, x: usize, o: usize) -> bool
+    requires { ⌜ Fit (now t) (grants r x o) ⌝ }
+    ensures { λ a. ⌜ Served (now (t .entry)) (now (t .exit)) a (grants r x o) ⌝ }
+{
+    let at = GRANTED + 64 * x + o;
+    t[at] = bits::with(t[at], r);
+    true
+}
+
+// Role r is no longer granted (x, o), a permission; put back where it would not be effective for a session that holds it.
+fn revoke(t: &mut [u64], r: usize, x: usize, o: usize) -> bool
+    requires { ⌜ Fit (now t) (revokes r x o) ⌝ }
+    ensures { λ a. ⌜ Served (now (t .entry)) (now (t .exit)) a (revokes r x o) ⌝ }
+{
+    let at = GRANTED + 64 * x + o;
+    let old = t[at];
+    let less = bits::without(old, r);
+    t[at] = less;
+    if sound::holders_fit(t, x, o) {
+        return true;
+    }
+    t[at] = old;
+    false
+}
+
+// The largest value of each argument, a row for each code from 1 on; one that is not listed must be 0.
+const LIMITS: [[u64; 3]; 10] = [
+    [31, 63, 7],
+    [31, 63, 7],
+    [31, 63, 0],
+    [31, 0, 0],
+    [31, 63, 0],
+    [31, 63, 0],
+    [63, 63, 0],
+    [63, 63, 0],
+    [63, 7, 63],
+    [63, 7, 63],
+];
+
+// The largest value of argument i, 0 to 2, of a code from 1 to 10.
+fn limit(code: u64, i: usize) -> u64
+    requires { ⌜ (1 ≤ code) × (code ≤ 10) × (i < 3) ⌝ }
+    ensures { λ r. ⌜ r ≡ getD (getD limits (code - 1) []) i 0 ⌝ }
+{
+    let row = (code - 1) as usize;
+    LIMITS[row][i]
+}
+
+// Whether the arguments of a code from 1 to 10 are within its limits.
+fn in_range(code: u64, a: u64, b: u64, c: u64) -> bool
+    requires { ⌜ (1 ≤ code) × (code ≤ 10) ⌝ }
+    ensures { λ r. ⌜ r ≡ inRange (ask code a b c) ⌝ }
+{
+    if limit(code, 0) < a {
+        return false;
+    }
+    if limit(code, 1) < b {
+        return false;
+    }
+    c <= limit(code, 2)
+}
+
+// Whether the pair that a grant or revoke names is a permission; the other requests name none.
+fn is_known(t: &[u64], code: u64, x: usize, o: usize) -> bool
+    requires { ⌜ (length (now t) ≡ 968) × (9 ≤ code → x < 8) ⌝ }
+    ensures { λ r. ⌜ r ≡ pairKnown (state (now (t .entry))) code x o ⌝ }
+{
+    if code < 9 {
+        return true;
+    }
+    bits::has(t[PERMITTED + x], o)
+}
+
+// The request of a code from 1 to 10; yes or no.
+fn perform(t: &mut [u64], code: u64, a: usize, b: usize, c: usize) -> bool
+    requires { ⌜ (1 ≤ code) × (code ≤ 10) × Fit (now t) (decode (ask code a b c)) ⌝ }
+    ensures { λ r. ⌜ Served (now (t .entry)) (now (t .exit)) r (decode (ask code a b c)) ⌝ }
+{
+    match code {
+        1 => open(t, a, b, c),
+        2 => close(t, a, b, c),
+        3 => start(t, a, b),
+        4 => end(t, a),
+        5 => activate(t, a, b),
+        6 => drop(t, a, b),
+        7 => assign(t, a, b),
+        8 => deassign(t, a, b),
+        9 => grant(t, a, b, c),
+        _ => revoke(t, a, b, c),
+    }
+}
+
+// A role request on a table that is known to be sound: `request` without the soundness test.
+pub fn serve(t: &mut [u64], code: u64, a: u64, b: u64, c: u64) -> Answer
+    ensures answer { λ r. ⌜ numberOf r ≡ soundStep (now (t .entry)) (ask code a b c) .answer ⌝ }
+    ensures table { λ r. ⌜ now (t .exit) ≡ soundStep (now (t .entry)) (ask code a b c) .state ⌝ }
+{
+    if t.len() != WORDS {
+        return Answer::Refused(Refusal::WrongLength);
+    }
+    if code < 1 {
+        return Answer::Refused(Refusal::BadCode);
+    }
+    if 10 < code {
+        return Answer::Refused(Refusal::BadCode);
+    }
+    if !in_range(code, a, b, c) {
+        return Answer::Refused(Refusal::BadArgument);
+    }
+    if !is_known(t, code, b as usize, c as usize) {
+        return Answer::Refused(Refusal::NoPermission);
+    }
+    match perform(t, code, a as usize, b as usize, c as usize) {
+        true => Answer::Yes,
+        false => Answer::No,
+    }
+}
+
+// A role request on a lent table of any length and contents.
+pub fn request(t: &mut [u64], code: u64, a: u64, b: u64, c: u64) -> Answer
+    ensures answer { λ r. ⌜ numberOf r ≡ roleStep (now (t .entry)) (ask code a b c) .answer ⌝ }
+    ensures table { λ r. ⌜ now (t .exit) ≡ roleStep (now (t .entry)) (ask code a b c) .state ⌝ }
+{
+    if t.len() != WORDS {
+        return Answer::Refused(Refusal::WrongLength);
+    }
+    if !sound::is_sound(t) {
+        return Answer::Refused(Refusal::Unsound);
+    }
+    serve(t, code, a, b, c)
+}

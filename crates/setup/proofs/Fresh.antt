@@ -1,0 +1,76 @@
+-- The table that an accepted set-up writes, and that it is sound. Assumes nothing.
+use Prim.Native.Nat.{ℕ, _≤_, _<_}
+use mathlib.Core.Path.{_≡_, refl, ap, _∙_}
+use mathlib.Core.Bool.{true}
+use mathlib.Core.List.{List}
+use native.Mathlib.Omega.{arith}
+use lib.ListN.{length, getD}
+use borrow.Author.Tests.{eqb-true}
+use Rattle.bits.proofs.Truth.{clash, implies-elim}
+use Rattle.bits.proofs.Below.{all-elim}
+use Rattle.bits.proofs.Word.{has-zero}
+use Rattle.bits.proofs.Members.{each-elim}
+use Rattle.table.specs.Sound.{Sound}
+use Rattle.table.specs.Table.{tableLength, permittedAt, assignedAt, grantedAt, ownerAt, activeAt, holdsAt, word, encode}
+use Rattle.table.specs.Answers.{overlay, clearedFrom}
+use Rattle.table.proofs.Encode.{shown}
+use Rattle.table.proofs.Answers.{length-cleared, cleared-before, cleared-after, length-overlay, overlay-at, overlay-before}
+use Rattle.setup.specs.Closure.{closure, acyclic}
+use Rattle.setup.specs.SetUp.{fresh}
+use Rattle.setup.proofs.Closure.{closure-reflexive, closure-transitive}
+
+module _ (t rows permissions : List ℕ) (e : length t ≡ tableLength) (er : length rows ≡ 64) (ep : length permissions ≡ 8) where
+  abbrev first : List ℕ
+  first = overlay t 0 rows
+
+  abbrev second : List ℕ
+  second = overlay first 64 permissions
+
+  abbrev last : List ℕ
+  last = clearedFrom second 72
+
+  l1 : length first ≡ tableLength
+  l1 = length-overlay t 0 rows ∙ e
+
+  l2 : length second ≡ tableLength
+  l2 = length-overlay first 64 permissions ∙ l1
+
+  zero-at : (i : ℕ) → 72 ≤ i → i < tableLength → word last i ≡ 0
+  zero-at i h l = cleared-after second 72 i h (let k = l2 in omega arith)
+
+  pub written-fresh : last ≡ encode (fresh rows permissions)
+  unfolding fresh
+  written-fresh =
+      shown last _ (length-cleared second 72 ∙ l2) (record {
+        juniors = λ r h.
+            let k = l2 in let j = l1 in
+            cleared-before second 72 r (omega arith) (omega arith)
+            ∙ overlay-before first 64 permissions r h (omega arith)
+            ∙ overlay-at t 0 rows r (omega arith) (omega arith) (omega arith)
+            ∙ ap (λ (i : ℕ). getD rows i 0) (omega arith);
+        permitted = λ x h.
+            let k = l2 in let j = l1 in
+            cleared-before second 72 (permittedAt x) (omega arith) (omega arith)
+            ∙ overlay-at first 64 permissions (permittedAt x) (omega arith) (omega arith) (omega arith)
+            ∙ ap (λ (i : ℕ). getD permissions i 0) (omega arith);
+        assigned = λ u h. zero-at (assignedAt u) (omega arith) (omega arith);
+        granted = λ x o h k. zero-at (grantedAt x o) (omega arith) (omega arith);
+        owner = λ s h. zero-at (ownerAt s) (omega arith) (omega arith);
+        active = λ s h. zero-at (activeAt s) (omega arith) (omega arith);
+        holds = λ s x h k. zero-at (holdsAt s x) (omega arith) (omega arith);
+      })
+
+-- seniority is the closure's, and everything else is empty
+pub fresh-sound : (direct permissions : List ℕ) → acyclic (closure direct) ≡ true → Sound (fresh (closure direct) permissions)
+unfolding fresh acyclic
+fresh-sound direct permissions a = record {
+  is-reflexive = λ r h. closure-reflexive direct r h;
+  is-transitive = λ r q p hr hq hp k l. closure-transitive direct r q p hr hq hp k l;
+  is-antisymmetric = λ r q hr hq k l. eqb-true r q (implies-elim _ _ (each-elim _ _ (all-elim _ 64 a r hr) q hq k) l);
+  grants-permitted = λ x o r hx ho hr m. clash m (has-zero r);
+  owners-known = λ s h. omega arith;
+  idle-no-roles = λ s h i. refl;
+  idle-no-openings = λ s x hs hx i. refl;
+  active-authorised = λ s r hs hr m. clash m (has-zero r);
+  openings-effective = λ s x o hs hx ho m. clash m (has-zero o);
+}

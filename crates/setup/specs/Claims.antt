@@ -1,0 +1,50 @@
+-- What is claimed of the role set-up, each as the answer to a question. proofs/Claims.antt proves them.
+use Prim.Native.Nat.{ℕ, _<_}
+use mathlib.Core.Path.{_≡_}
+use mathlib.Core.Bool.{true}
+use mathlib.Core.List.{List}
+use mathlib.Core.Logic.{_↔_}
+use lib.ListN.{length, getD}
+use Rattle.bits.specs.Sets.{has}
+use Rattle.table.specs.Table.{tableLength}
+use Rattle.sound.specs.Answers.{isSound}
+use Rattle.setup.specs.Closure.{closure, Reaches}
+use Rattle.setup.specs.SetUp.{roleSetUp}
+
+-- Which roles does the set-up put below a role? Exactly those that a chain of direct juniors reaches.
+abbrev pub ClosureMeans : Type 0
+ClosureMeans = (direct : List ℕ) (r q : ℕ) → r < 64 → q < 64 → has (getD (closure direct) r 0) q ≡ true ↔ Reaches direct r q
+
+-- two different roles that reach each other
+pub record Cycle (direct : List ℕ) : Type 0 where
+  pub first : ℕ
+  pub second : ℕ
+  pub first-below : first < 64
+  pub second-below : second < 64
+  pub different : first ≡ second → ⊥
+  pub there : Reaches direct first second
+  pub back : Reaches direct second first
+
+-- When is a set-up with lists of their lengths refused 20? Exactly when two different roles reach each other.
+abbrev pub CycleRefused : Type 0
+CycleRefused =
+    (t direct permissions : List ℕ) → length t ≡ tableLength → length direct ≡ 64 → length permissions ≡ 8
+    → roleSetUp t direct permissions .answer ≡ 20 ↔ Cycle direct
+
+-- Is the table of an accepted set-up sound? Always.
+abbrev pub SetUpSound : Type 0
+SetUpSound =
+    (t direct permissions : List ℕ) → roleSetUp t direct permissions .answer ≡ 1
+    → isSound (roleSetUp t direct permissions .state) ≡ true
+
+-- Does a refused set-up change anything? Nothing, in a list of any length.
+abbrev pub SetUpRefused : Type 0
+SetUpRefused =
+    (t direct permissions : List ℕ) → (roleSetUp t direct permissions .answer ≡ 1 → ⊥)
+    → roleSetUp t direct permissions .state ≡ t
+
+-- Do the old contents of the table matter? Not to the answer, and not to the table of an accepted set-up.
+abbrev pub OldContents : Type 0
+OldContents =
+    (t t′ direct permissions : List ℕ) → length t ≡ length t′ → roleSetUp t direct permissions .answer ≡ 1
+    → roleSetUp t direct permissions ≡ roleSetUp t′ direct permissions

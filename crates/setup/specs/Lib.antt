@@ -1,0 +1,4 @@
+-- The crate's definitions, in reading order.
+pub mod Closure
+pub mod SetUp
+pub mod Claims

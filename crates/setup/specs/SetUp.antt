@@ -1,0 +1,31 @@
+-- The role set-up of 01: refusals 12, 18 and 20 in order, then the closure, the permissions and zero elsewhere. Old
+-- contents of the table do not matter.
+use Prim.Native.Nat.{ℕ}
+use mathlib.Core.Bool.{not}
+use mathlib.Core.List.{List}
+use lib.Dec.{eqb}
+use lib.ListN.{length, getD}
+use Rattle.bits.specs.Truth.{_and_, if_then_else_}
+use Rattle.table.specs.State.{State}
+use Rattle.table.specs.Table.{isTable, encode}
+use Rattle.roles.specs.Request.{Outcome, refuse, accept}
+use Rattle.setup.specs.Closure.{closure, acyclic}
+
+-- nobody is assigned or granted anything, and all sessions are idle
+unfoldable pub fresh : List ℕ → List ℕ → State
+fresh rows permissions = record {
+  juniors = λ r. getD rows r 0;
+  permitted = λ x. getD permissions x 0;
+  assigned = λ u. 0;
+  granted = λ x o. 0;
+  owner = λ s. 0;
+  active = λ s. 0;
+  holds = λ s x. 0;
+}
+
+unfoldable pub roleSetUp : List ℕ → List ℕ → List ℕ → Outcome (List ℕ)
+roleSetUp t direct permissions =
+    if not (isTable t) then refuse 12 t else
+    if not (eqb (length direct) 64 and eqb (length permissions) 8) then refuse 18 t else
+    if not (acyclic (closure direct)) then refuse 20 t else
+    accept (encode (fresh (closure direct) permissions))

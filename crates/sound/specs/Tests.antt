@@ -1,0 +1,28 @@
+-- What the private functions that make up the soundness test answer, item by item. No promise rests on this page: the public
+-- test is held to `sound`, and that these items come to it is proved.
+use Prim.Native.Nat.{ℕ}
+use mathlib.Core.Bool.{Bool, not}
+use lib.Dec.{eqb, leb}
+use Rattle.bits.specs.Truth.{_and_, _or_}
+use Rattle.bits.specs.Sets.{each, subset, overlap, _without_}
+use Rattle.table.specs.State.{State, senior, permission, mayActivate}
+
+-- q, a junior of r and another role, is not senior to r, and its juniors are juniors of r
+unfoldable pub juniorFits : State → ℕ → ℕ → Bool
+juniorFits S r q = not (senior S q r) and subset (S .juniors q) (S .juniors r)
+
+-- r is its own junior, and its other juniors fit
+unfoldable pub roleFits : State → ℕ → Bool
+roleFits S r = senior S r r and each (S .juniors r without r) (λ q. juniorFits S r q)
+
+-- (x, o) is granted to no role or is a permission
+unfoldable pub grantFits : State → ℕ → ℕ → Bool
+grantFits S x o = eqb (S .granted x o) 0 or permission S x o
+
+-- the session's word is at most 64, and its active roles are authorised for it
+unfoldable pub rolesFit : State → ℕ → Bool
+rolesFit S s = leb (S .owner s) 64 and each (S .active s) (λ r. mayActivate S s r)
+
+-- each object that s holds in mode x is granted in that mode to one of the roles
+unfoldable pub heldFits : State → ℕ → ℕ → ℕ → Bool
+heldFits S roles s x = each (S .holds s x) (λ o. overlap (S .granted x o) roles)

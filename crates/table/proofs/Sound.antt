@@ -1,0 +1,60 @@
+-- Soundness and its plain facts: each from the other. Nothing else opens the definition. Assumes nothing.
+use Prim.Native.Nat.{ℕ, _<_}
+use mathlib.Core.Path.{_≡_}
+use mathlib.Core.Bool.{true}
+use lib.Dec.{eqb}
+use borrow.Author.Tests.{eqb-true, eq-eqb, leb-true, le-leb}
+use Rattle.bits.specs.Truth.{_and_}
+use Rattle.bits.specs.Sets.{all}
+use Rattle.bits.proofs.Truth.{and-intro, and-left, and-right, implies-intro, implies-elim}
+use Rattle.bits.proofs.Below.{all-intro, all-elim}
+use Rattle.bits.proofs.Members.{each-intro, each-elim}
+use Rattle.table.specs.State.{State, senior, idle}
+use Rattle.table.specs.Sound.{reflexive, transitive, antisymmetric, grantsPermitted, ownersKnown, idleEmpty, activeAuthorised, openingsEffective, sound, Sound}
+
+module _ (S : State) where
+  pub sound-elim : sound S ≡ true → Sound S
+  unfolding sound reflexive transitive antisymmetric grantsPermitted ownersKnown idleEmpty activeAuthorised openingsEffective
+  sound-elim e1 =
+      let e2 = and-right (reflexive S) _ e1 in
+      let e3 = and-right (transitive S) _ e2 in
+      let e4 = and-right (antisymmetric S) _ e3 in
+      let e5 = and-right (grantsPermitted S) _ e4 in
+      let e6 = and-right (ownersKnown S) _ e5 in
+      let e7 = and-right (idleEmpty S) _ e6 in
+      let empty : (s : ℕ) → s < 32 → idle S s ≡ true → eqb (S .active s) 0 and all 8 (λ x. eqb (S .holds s x) 0) ≡ true =
+      λ s h i. implies-elim (idle S s) _ (all-elim _ 32 (and-left (idleEmpty S) _ e6) s h) i in
+      record {
+        is-reflexive = λ r h. all-elim _ 64 (and-left (reflexive S) _ e1) r h;
+        is-transitive = λ r q p hr hq hp a b.
+            each-elim _ _ (each-elim _ _ (all-elim _ 64 (and-left (transitive S) _ e2) r hr) q hq a) p hp b;
+        is-antisymmetric = λ r q hr hq a b.
+            eqb-true r q (implies-elim (senior S q r) _ (each-elim _ _ (all-elim _ 64 (and-left (antisymmetric S) _ e3) r hr) q hq a) b);
+        grants-permitted = λ x o r hx ho hr m.
+            each-elim _ _ (all-elim _ 64 (all-elim _ 8 (and-left (grantsPermitted S) _ e4) x hx) o ho) r hr m;
+        owners-known = λ s h. leb-true (S .owner s) 64 (all-elim _ 32 (and-left (ownersKnown S) _ e5) s h);
+        idle-no-roles = λ s h i. eqb-true (S .active s) 0 (and-left (eqb (S .active s) 0) _ (empty s h i));
+        idle-no-openings = λ s x hs hx i.
+            eqb-true (S .holds s x) 0 (all-elim _ 8 (and-right (eqb (S .active s) 0) _ (empty s hs i)) x hx);
+        active-authorised = λ s r hs hr m. each-elim _ _ (all-elim _ 32 (and-left (activeAuthorised S) _ e7) s hs) r hr m;
+        openings-effective = λ s x o hs hx ho m.
+            each-elim _ _ (all-elim _ 8 (all-elim _ 32 (and-right (activeAuthorised S) _ e7) s hs) x hx) o ho m;
+      }
+
+  pub sound-intro : Sound S → sound S ≡ true
+  unfolding sound reflexive transitive antisymmetric grantsPermitted ownersKnown idleEmpty activeAuthorised openingsEffective
+  sound-intro f =
+      and-intro (all-intro _ 64 (f .is-reflexive))
+      (and-intro (all-intro _ 64 (λ r hr. each-intro _ _ (λ q hq a. each-intro _ _ (λ p hp b. f .is-transitive r q p hr hq hp a b))))
+      (and-intro
+      (all-intro _ 64 (λ r hr. each-intro _ _ (λ q hq a.
+      implies-intro (senior S q r) _ (λ b. eq-eqb r q (f .is-antisymmetric r q hr hq a b)))))
+      (and-intro
+      (all-intro _ 8 (λ x hx. all-intro _ 64 (λ o ho. each-intro _ _ (λ r hr m. f .grants-permitted x o r hx ho hr m))))
+      (and-intro (all-intro _ 32 (λ s h. le-leb (S .owner s) 64 (f .owners-known s h)))
+      (and-intro
+      (all-intro _ 32 (λ s hs. implies-intro (idle S s) _ (λ i.
+      and-intro (eq-eqb (S .active s) 0 (f .idle-no-roles s hs i))
+      (all-intro _ 8 (λ x hx. eq-eqb (S .holds s x) 0 (f .idle-no-openings s x hs hx i))))))
+      (and-intro (all-intro _ 32 (λ s hs. each-intro _ _ (λ r hr m. f .active-authorised s r hs hr m)))
+      (all-intro _ 32 (λ s hs. all-intro _ 8 (λ x hx. each-intro _ _ (λ o ho m. f .openings-effective s x o hs hx ho m))))))))))

@@ -1,2 +1,0 @@
--- Laws of the table.
-pub mod Laws

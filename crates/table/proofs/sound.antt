@@ -1,3 +1,0 @@
--- Laws of soundness.
-pub mod Laws
-pub mod Items

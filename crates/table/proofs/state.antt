@@ -1,2 +1,0 @@
--- Laws of the state that a table shows.
-pub mod Laws
