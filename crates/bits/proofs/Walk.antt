@@ -46,6 +46,11 @@ split (suc k) w h l = go (w % 2) refl (λ e. split k (w / 2) (omega arith) (let 
         }
     go (suc r) e ih = record { above = w / 2; is = omega arith; below = omega arith }
 
+-- a member below which there is none is the lowest
+pub lowest-least : (w i : ℕ) → i < 64 → has w i ≡ true → ((j : ℕ) → j < i → has w j ≡ false) → lowest w ≡ i
+unfolding lowest
+lowest-least w i h e n = least-is (has w) 64 i h e n
+
 -- ---- a word that is not empty: its lowest member, and the rest
 
 module _ (w : ℕ) (l : w < 2 ^ 64) (n : w ≡ 0 → ⊥) where

@@ -6,4 +6,5 @@ pub mod Guarding
 pub mod Same
 pub mod Keeping
 pub mod Steps
+pub mod Requests
 pub mod Claims

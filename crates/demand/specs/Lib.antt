@@ -1,0 +1,3 @@
+-- The crate's definitions, in reading order.
+pub mod Demand
+pub mod Run

@@ -1,0 +1,81 @@
+-- `is_image` meets its contract: the five parts of the test in order. Assumes nothing.
+use borrow.Author.Needs.{needs}
+use mathlib.Core.Path.{sym, _∙_}
+use Rattle.bits.proofs.Truth.{confirmed, refuted, true-and, false-and}
+use Rattle.table.proofs.Table.{is-table, not-table}
+use Rattle.image.specs.Image.{isImage}
+use Rattle.image.specs.Test.{showsImage}
+use Rattle.image.proofs.is_image.Statement.{statement}
+use Rattle.image.proofs.is_image.Tie as tie
+
+returns : tie.Need-returns
+unfolding showsImage
+returns c = sym (false-and _ (not-table _ (c .if1 .taken)))
+
+returns-2 : tie.Need-returns-2
+unfolding showsImage isImage
+returns-2 c = sym (true-and _ (is-table _ (c .before .before .if1 .left)) ∙ false-and _ (refuted (c .before .seniority-fits .ensures) (c .if2 .taken)))
+
+returns-3 : tie.Need-returns-3
+unfolding showsImage isImage
+returns-3 c =
+    let a = c .before .before in
+    sym
+    (true-and _ (is-table _ (a .before .before .if1 .left))
+    ∙ true-and _ (confirmed (a .before .seniority-fits .ensures) (a .if2 .left))
+    ∙ false-and _ (refuted (c .before .permissions-fit .ensures) (c .if3 .taken)))
+
+returns-4 : tie.Need-returns-4
+unfolding showsImage isImage
+returns-4 c =
+    let b = c .before .before in
+    let a = b .before .before in
+    sym
+    (true-and _ (is-table _ (a .before .before .if1 .left))
+    ∙ true-and _ (confirmed (a .before .seniority-fits .ensures) (a .if2 .left))
+    ∙ true-and _ (confirmed (b .before .permissions-fit .ensures) (b .if3 .left))
+    ∙ false-and _ (refuted (c .before .users-fit .ensures) (c .if4 .taken)))
+
+returns-5 : tie.Need-returns-5
+unfolding showsImage isImage
+returns-5 c =
+    let d = c .before .before in
+    let b = d .before .before in
+    let a = b .before .before in
+    sym
+    (true-and _ (is-table _ (a .before .before .if1 .left))
+    ∙ true-and _ (confirmed (a .before .seniority-fits .ensures) (a .if2 .left))
+    ∙ true-and _ (confirmed (b .before .permissions-fit .ensures) (b .if3 .left))
+    ∙ true-and _ (confirmed (d .before .users-fit .ensures) (d .if4 .left))
+    ∙ false-and _ (refuted (c .before .objects-fit .ensures) (c .if5 .taken)))
+
+returns-6 : tie.Need-returns-6
+unfolding showsImage isImage
+returns-6 c =
+    let e = c .before in
+    let d = e .before .before in
+    let b = d .before .before in
+    let a = b .before .before in
+    c .levels-fit .ensures
+    ∙ sym
+    (true-and _ (is-table _ (a .before .before .if1 .left))
+    ∙ true-and _ (confirmed (a .before .seniority-fits .ensures) (a .if2 .left))
+    ∙ true-and _ (confirmed (b .before .permissions-fit .ensures) (b .if3 .left))
+    ∙ true-and _ (confirmed (d .before .users-fit .ensures) (d .if4 .left))
+    ∙ true-and _ (confirmed (e .before .objects-fit .ensures) (e .if5 .left)))
+
+pub is-image-spec : {M : Type 1} → statement M
+is-image-spec =
+    tie.close
+    (tie.spec
+    returns
+    (λ c κs. search needs)
+    returns-2
+    (λ c κs. search needs)
+    returns-3
+    (λ c κs. search needs)
+    returns-4
+    (λ c κs. search needs)
+    returns-5
+    (λ c κs. search needs)
+    returns-6)

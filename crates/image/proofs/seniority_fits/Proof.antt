@@ -1,0 +1,56 @@
+-- `seniority_fits` meets its contract: the rows of the roles passed are those of the labels. Assumes nothing.
+use borrow.Author.Needs.{needs}
+use Prim.Native.Nat.{_-_}
+use mathlib.Core.Path.{_≡_, sym, _∙_}
+use mathlib.Core.Bool.{true}
+use lib.Dec.{eqb}
+use borrow.Author.Tests.{eq-eqb, ne-eqb}
+use Rattle.bits.specs.Sets.{pack}
+use Rattle.bits.proofs.Below.{all-intro, all-fails, widen, Passed, passed-none, passed-more, passed-all}
+use Rattle.table.specs.Table.{state}
+use Rattle.image.specs.Image.{above, seniorityFits}
+use Rattle.image.proofs.Rows.{row-is}
+use Rattle.image.proofs.seniority_fits.Statement.{statement}
+use Rattle.image.proofs.seniority_fits.Tie as tie
+
+abbrev Inv-loop : tie.InvT-loop
+Inv-loop t r₀ r = Passed (λ r. eqb (state t .juniors r) (pack 64 (above r)) ≡ true) 64 r
+
+abbrev μ-loop : tie.MeasureT-loop
+μ-loop t r₀ r = 64 - r
+
+returns : tie.Need-returns Inv-loop μ-loop
+unfolding seniorityFits
+returns c =
+    let turn = c .before .before in
+    let l = turn .before .loop in
+    let h = turn .loop-test .taken in
+    sym (all-fails _ 64 (l .r) h (ne-eqb _ _ (λ e. c .if1 .taken (e ∙ sym (row-is (l .r) h)))))
+
+loop-again : tie.Need-loop-again Inv-loop μ-loop
+loop-again c =
+    let turn = c .before .before in
+    let l = turn .before .loop in
+    let h = turn .loop-test .taken in
+    passed-more (l .inv) h (eq-eqb _ _ (c .if1 .left ∙ row-is (l .r) h))
+
+returns-2 : tie.Need-returns-2 Inv-loop μ-loop
+unfolding seniorityFits
+returns-2 c = sym (all-intro _ 64 (passed-all (c .before .loop .inv) (c .loop-test .left)))
+
+pub seniority-fits-spec : {M : Type 1} → statement M
+seniority-fits-spec =
+    tie.close
+    (tie.spec
+    Inv-loop
+    μ-loop
+    (λ c. passed-none)
+    (λ c. search needs)
+    (λ c. search needs)
+    (λ c. search needs)
+    (λ c. search needs)
+    returns
+    (λ c. search needs)
+    (λ c. search needs)
+    loop-again
+    returns-2)

@@ -1,0 +1,282 @@
+// The image of a machine state: the test for it, and the label set-up.
+use roles::Answer;
+use roles::Refusal;
+use table::layout::ACTIVE;
+use table::layout::ASSIGNED;
+use table::layout::GRANTED;
+use table::layout::OWNER;
+use table::layout::PERMITTED;
+use table::layout::WORDS;
+ghost use mathlib.Core.Path.{_≡_};
+ghost use Prim.Native.Nat.{_+_, _≤_};
+ghost use lib.ListN.{length, getD};
+ghost use Rattle.bits.specs.Sets.{_with_};
+ghost use Rattle.table.specs.Table.{state, tabulate};
+ghost use Rattle.roles.specs.Answer.{numberOf};
+ghost use Rattle.image.specs.Image.{image, clearedRoles, seatRoles, seatOf, seniorityFits, permissionsFit, usersFit, objectsFit, levelsFit};
+ghost use Rattle.image.specs.SetUp.{begin, areLabels, labelSetUp};
+ghost use Rattle.image.specs.Test.{IsLabel, showsImage};
+
+// The juniors of each role, and the role: a read role has those whose label its own dominates, a write role the other way round.
+const JUNIORS: [u64; 64] = [
+    0x1,
+    0x3,
+    0x5,
+    0xf,
+    0x11,
+    0x33,
+    0x55,
+    0xff,
+    0x101,
+    0x303,
+    0x505,
+    0xf0f,
+    0x1111,
+    0x3333,
+    0x5555,
+    0xffff,
+    0x10101,
+    0x30303,
+    0x50505,
+    0xf0f0f,
+    0x111111,
+    0x333333,
+    0x555555,
+    0xffffff,
+    0x1010101,
+    0x3030303,
+    0x5050505,
+    0xf0f0f0f,
+    0x11111111,
+    0x33333333,
+    0x55555555,
+    0xffffffff,
+    0xffffffff00000000,
+    0xaaaaaaaa00000000,
+    0xcccccccc00000000,
+    0x8888888800000000,
+    0xf0f0f0f000000000,
+    0xa0a0a0a000000000,
+    0xc0c0c0c000000000,
+    0x8080808000000000,
+    0xffffff0000000000,
+    0xaaaaaa0000000000,
+    0xcccccc0000000000,
+    0x8888880000000000,
+    0xf0f0f00000000000,
+    0xa0a0a00000000000,
+    0xc0c0c00000000000,
+    0x8080800000000000,
+    0xffff000000000000,
+    0xaaaa000000000000,
+    0xcccc000000000000,
+    0x8888000000000000,
+    0xf0f0000000000000,
+    0xa0a0000000000000,
+    0xc0c0000000000000,
+    0x8080000000000000,
+    0xff00000000000000,
+    0xaa00000000000000,
+    0xcc00000000000000,
+    0x8800000000000000,
+    0xf000000000000000,
+    0xa000000000000000,
+    0xc000000000000000,
+    0x8000000000000000,
+];
+
+// The objects permitted in each mode: all to be read and to be written.
+const PERMITTED_OBJECTS: [u64; 8] = [0xffffffffffffffff, 0xffffffffffffffff, 0, 0, 0, 0, 0, 0];
+
+// Whether the seniority of the roles is that of the labels.
+fn seniority_fits(t: &[u64]) -> bool
+    requires { ⌜ length (now t) ≡ 968 ⌝ }
+    ensures { λ b. ⌜ b ≡ seniorityFits (state (now (t .entry))) ⌝ }
+{
+    for r in 0..64 {
+        if t[r] != JUNIORS[r] {
+            return false;
+        }
+    }
+    true
+}
+
+// Whether the permissions are those of modes 0 and 1.
+fn permissions_fit(t: &[u64]) -> bool
+    requires { ⌜ length (now t) ≡ 968 ⌝ }
+    ensures { λ b. ⌜ b ≡ permissionsFit (state (now (t .entry))) ⌝ }
+{
+    for x in 0..8 {
+        if t[PERMITTED + x] != PERMITTED_OBJECTS[x] {
+            return false;
+        }
+    }
+    true
+}
+
+// The label of the lowest role.
+pub fn label_of(roles: u64) -> usize
+    ensures { λ l. ⌜ IsLabel roles l ⌝ }
+{
+    bits::lowest(roles) % 32
+}
+
+// The roles of a user with clearance c.
+fn cleared_roles(c: usize) -> u64
+    ensures { λ w. ⌜ w ≡ clearedRoles c ⌝ }
+{
+    bits::with(bits::with(0, c), 32)
+}
+
+// Whether every user has exactly a clearance role and role 32.
+fn users_fit(t: &[u64]) -> bool
+    requires { ⌜ length (now t) ≡ 968 ⌝ }
+    ensures { λ b. ⌜ b ≡ usersFit (state (now (t .entry))) ⌝ }
+{
+    for u in 0..64 {
+        let roles = t[ASSIGNED + u];
+        if roles != cleared_roles(label_of(roles)) {
+            return false;
+        }
+    }
+    true
+}
+
+// Whether every object is granted to the read role and to the write role of one label alone.
+fn objects_fit(t: &[u64]) -> bool
+    requires { ⌜ length (now t) ≡ 968 ⌝ }
+    ensures { λ b. ⌜ b ≡ objectsFit (state (now (t .entry))) ⌝ }
+{
+    for o in 0..64 {
+        let readers = t[GRANTED + o];
+        let l = label_of(readers);
+        if readers != bits::with(0, l) {
+            return false;
+        }
+        if t[GRANTED + 64 + o] != bits::with(0, 32 + l) {
+            return false;
+        }
+    }
+    true
+}
+
+// The roles of the session that a word of its user and its active roles show.
+fn seat_roles(owner: u64, roles: u64) -> u64
+    ensures { λ w. ⌜ w ≡ seatRoles (seatOf owner roles) ⌝ }
+{
+    if owner == 0 {
+        return 0;
+    }
+    let y = label_of(roles);
+    bits::with(bits::with(0, y), 32 + y)
+}
+
+// Whether every session has exactly the two roles of its level, and an idle one none.
+fn levels_fit(t: &[u64]) -> bool
+    requires { ⌜ length (now t) ≡ 968 ⌝ }
+    ensures { λ b. ⌜ b ≡ levelsFit (state (now (t .entry))) ⌝ }
+{
+    for s in 0..32 {
+        let roles = t[ACTIVE + s];
+        if roles != seat_roles(t[OWNER + s], roles) {
+            return false;
+        }
+    }
+    true
+}
+
+// Whether a sound table is the image of a machine state; no for a list that is no table.
+pub fn is_image(t: &[u64]) -> bool
+    ensures { λ b. ⌜ b ≡ showsImage (now (t .entry)) ⌝ }
+{
+    if t.len() != WORDS {
+        return false;
+    }
+    if !seniority_fits(t) {
+        return false;
+    }
+    if !permissions_fit(t) {
+        return false;
+    }
+    if !users_fit(t) {
+        return false;
+    }
+    if !objects_fit(t) {
+        return false;
+    }
+    levels_fit(t)
+}
+
+// Whether the 64 values are labels.
+fn are_labels(values: &[u8]) -> bool
+    requires { ⌜ length (now values) ≡ 64 ⌝ }
+    ensures { λ b. ⌜ b ≡ areLabels (now (values .entry)) ⌝ }
+{
+    for i in 0..64 {
+        if 31 < values[i] {
+            return false;
+        }
+    }
+    true
+}
+
+// The roles of 64 users by their clearances.
+fn assigned_words(clearances: &[u8]) -> [u64; 64]
+    requires { ⌜ length (now clearances) ≡ 64 ⌝ }
+    ensures { λ w. ⌜ w ≡ tabulate 64 (λ u. clearedRoles (getD (now (clearances .entry)) u 0)) ⌝ }
+{
+    let mut words = [0; 64];
+    for u in 0..64 {
+        words[u] = cleared_roles(clearances[u] as usize);
+    }
+    words
+}
+
+// For each of 64 labels the role that stands as far behind the first as the label is large.
+fn granted_words(labels: &[u8], first: usize) -> [u64; 64]
+    requires { ⌜ (length (now labels) ≡ 64) × (first ≤ 32) ⌝ }
+    ensures { λ w. ⌜ w ≡ tabulate 64 (λ o. 0 with (first + getD (now (labels .entry)) o 0)) ⌝ }
+{
+    let mut words = [0; 64];
+    for o in 0..64 {
+        words[o] = bits::with(0, first + labels[o] as usize);
+    }
+    words
+}
+
+// Writes the image of the machine with these clearances and labels, all sessions idle.
+fn write_image(t: &mut [u64], clearances: &[u8], labels: &[u8])
+    requires { ⌜ (length (now t) ≡ 968) × (length (now clearances) ≡ 64) × (length (now labels) ≡ 64) ⌝ }
+    ensures { λ r. ⌜ now (t .exit) ≡ image (begin (now (clearances .entry)) (now (labels .entry))) ⌝ }
+{
+    table::overlay(t, 0, &JUNIORS);
+    table::overlay(t, PERMITTED, &PERMITTED_OBJECTS);
+    table::overlay(t, ASSIGNED, &assigned_words(clearances));
+    table::overlay(t, GRANTED, &granted_words(labels, 0));
+    table::overlay(t, GRANTED + 64, &granted_words(labels, 32));
+    table::clear_from(t, GRANTED + 128);
+}
+
+// The label set-up: 64 clearances and 64 object labels, and all sessions idle.
+pub fn label_setup(t: &mut [u64], clearances: &[u8], labels: &[u8]) -> Answer
+    ensures answer { λ r. ⌜ numberOf r ≡ labelSetUp (now (t .entry)) (now (clearances .entry)) (now (labels .entry)) .answer ⌝ }
+    ensures table { λ r. ⌜ now (t .exit) ≡ labelSetUp (now (t .entry)) (now (clearances .entry)) (now (labels .entry)) .state ⌝ }
+{
+    if t.len() != WORDS {
+        return Answer::Refused(Refusal::WrongLength);
+    }
+    if clearances.len() != 64 {
+        return Answer::Refused(Refusal::BadListLength);
+    }
+    if labels.len() != 64 {
+        return Answer::Refused(Refusal::BadListLength);
+    }
+    if !are_labels(clearances) {
+        return Answer::Refused(Refusal::BadValue);
+    }
+    if !are_labels(labels) {
+        return Answer::Refused(Refusal::BadValue);
+    }
+    write_image(t, clearances, labels);
+    Answer::Yes
+}

@@ -1,0 +1,76 @@
+-- What the translation of each label request comes to, from the answers of the role requests. Assumes nothing.
+use Prim.Native.Nat.{ℕ, _+_}
+use mathlib.Core.Path.{_≡_, refl, ap, _∙_}
+use mathlib.Core.Bool.{Bool, true, false}
+use mathlib.Core.List.{List, []}
+use lib.Dec.{eqb}
+use lib.ListN.{length}
+use Rattle.bits.proofs.Truth.{if-true, if-false, past, stopped}
+use Rattle.table.specs.Table.{state}
+use Rattle.roles.specs.Request.{Ask, ask, Outcome}
+use Rattle.machine.specs.Machine.{starting, reclearing}
+use Rattle.image.specs.Image.{machineOf}
+use Rattle.labels.specs.Guard.{Plan, RoleGuard, single, startPlan, reclearPlan, saysYes, plan, run, carryOut}
+
+module _ (guard : RoleGuard) (t : List ℕ) where
+  -- the answer to a role request is yes, or no
+  pub says-yes : {f : ℕ} {l : List ℕ} (q : Ask) → guard t q ≡ record { answer = 1; spent = f; state = l } → saysYes guard t q ≡ true
+  unfolding saysYes
+  says-yes q e = ap (λ (o : Outcome (List ℕ)). eqb (o .answer) 1) e
+
+  pub says-no : {f : ℕ} {l : List ℕ} (q : Ask) → guard t q ≡ record { answer = 0; spent = f; state = l } → saysYes guard t q ≡ false
+  unfolding saysYes
+  says-no q e = ap (λ (o : Outcome (List ℕ)). eqb (o .answer) 1) e
+
+  carried : {p p′ : Plan} → p ≡ p′ → carryOut guard t p ≡ carryOut guard t p′
+  carried e = ap (carryOut guard t) e
+
+  pub single-carried : (q : Ask) → carryOut guard t (single guard t q) ≡ record { answer = guard t q .answer; spent = 1; state = guard t q .state }
+  unfolding carryOut single run
+  single-carried q = refl
+
+  module _ (s u y : ℕ) where
+    abbrev begun : List ℕ
+    begun = guard t (ask 3 s u 0) .state
+
+    abbrev read : List ℕ
+    read = guard begun (ask 5 s y 0) .state
+
+    pub start-busy : saysYes guard t (ask 3 s u 0) ≡ false
+        → carryOut guard t (plan guard t (starting s u y)) ≡ record { answer = 0; spent = 1; state = begun }
+    unfolding carryOut plan startPlan run
+    start-busy b = carried (stopped _ _ b)
+
+    pub start-uncleared : saysYes guard t (ask 3 s u 0) ≡ true → saysYes guard begun (ask 5 s y 0) ≡ false
+        → carryOut guard t (plan guard t (starting s u y)) ≡ record { answer = 0; spent = 3; state = guard read (ask 4 s 0 0) .state }
+    unfolding carryOut plan startPlan run
+    start-uncleared b c = carried (past _ _ b ∙ stopped _ _ c)
+
+    pub start-cleared : saysYes guard t (ask 3 s u 0) ≡ true → saysYes guard begun (ask 5 s y 0) ≡ true
+        → carryOut guard t (plan guard t (starting s u y)) ≡ record { answer = 1; spent = 3; state = guard read (ask 5 s (32 + y) 0) .state }
+    unfolding carryOut plan startPlan run
+    start-cleared b c = carried (past _ _ b ∙ past _ _ c)
+
+  module _ (u c : ℕ) where
+    abbrev old : ℕ
+    old = machineOf (state t) .clearance u
+
+    abbrev added : List ℕ
+    added = guard t (ask 7 u c 0) .state
+
+    abbrev taken : List ℕ
+    taken = guard added (ask 8 u old 0) .state
+
+    pub reclear-same : eqb old c ≡ true → carryOut guard t (plan guard t (reclearing u c)) ≡ record { answer = 1; spent = 0; state = t }
+    unfolding carryOut plan reclearPlan run
+    reclear-same e = carried (if-true _ _ e)
+
+    pub reclear-kept : eqb old c ≡ false → saysYes guard added (ask 8 u old 0) ≡ false
+        → carryOut guard t (plan guard t (reclearing u c)) ≡ record { answer = 0; spent = 3; state = guard taken (ask 8 u c 0) .state }
+    unfolding carryOut plan reclearPlan run
+    reclear-kept e d = carried (if-false _ _ e ∙ stopped _ _ d)
+
+    pub reclear-changed : eqb old c ≡ false → saysYes guard added (ask 8 u old 0) ≡ true
+        → carryOut guard t (plan guard t (reclearing u c)) ≡ record { answer = 1; spent = 2; state = taken }
+    unfolding carryOut plan reclearPlan run
+    reclear-changed e d = carried (if-false _ _ e ∙ past _ _ d)

@@ -1,0 +1,80 @@
+-- The label guard's refusals in their order, and what follows them. Assumes nothing.
+use Prim.Native.Nat.{ℕ, _≤_, _<_}
+use mathlib.Core.Path.{_≡_, ap, _∙_}
+use mathlib.Core.Bool.{true, false}
+use mathlib.Core.List.{List}
+use lib.ListN.{length}
+use borrow.Author.Tests.{le-leb, lt-leb}
+use Rattle.bits.proofs.Truth.{past, stopped, and-intro, false-and, and-false}
+use Rattle.table.specs.Sound.{sound}
+use Rattle.table.specs.Table.{tableLength, isTable, state}
+use Rattle.table.proofs.Table.{is-table}
+use Rattle.roles.specs.Request.{Ask, ask, refuse}
+use Rattle.roles.specs.Guard.{roleStep, soundStep}
+use Rattle.machine.specs.Machine.{Request, isCode, inRange, decode}
+use Rattle.image.specs.Image.{isImage}
+use Rattle.labels.specs.Guard.{RoleGuard, plan, carryOut, translated, labelStep, imageStep}
+
+-- ---- the code
+
+module _ (q : Ask) where
+  pub is-code : 1 ≤ q .code → q .code ≤ 5 → isCode q ≡ true
+  unfolding isCode
+  is-code l h = and-intro (le-leb 1 (q .code) l) (le-leb (q .code) 5 h)
+
+  pub code-low : q .code < 1 → isCode q ≡ false
+  unfolding isCode
+  code-low h = false-and _ (lt-leb 1 (q .code) h)
+
+  pub code-high : 5 < q .code → isCode q ≡ false
+  unfolding isCode
+  code-high h = and-false _ (lt-leb (q .code) 5 h)
+
+-- ---- refusals
+
+module _ (guard : RoleGuard) (t : List ℕ) (q : Ask) where
+  pub translated-code : isCode q ≡ false → translated guard t q ≡ refuse 15 t
+  unfolding translated
+  translated-code c = stopped _ _ c
+
+  pub translated-argument : isCode q ≡ true → inRange q ≡ false → translated guard t q ≡ refuse 16 t
+  unfolding translated
+  translated-argument c r = past _ _ c ∙ stopped _ _ r
+
+  pub translated-plan : isCode q ≡ true → inRange q ≡ true → translated guard t q ≡ carryOut guard t (plan guard t (decode q))
+  unfolding translated
+  translated-plan c r = past _ _ c ∙ past _ _ r
+
+module _ (t : List ℕ) (q : Ask) where
+  pub image-step-short : isTable t ≡ false → imageStep t q ≡ refuse 12 t
+  unfolding imageStep
+  image-step-short i = stopped _ _ i
+
+  pub image-step-table : isTable t ≡ true → imageStep t q ≡ translated soundStep t q
+  unfolding imageStep
+  image-step-table i = past _ _ i
+
+  pub label-step-short : isTable t ≡ false → labelStep t q ≡ refuse 12 t
+  unfolding labelStep
+  label-step-short i = stopped _ _ i
+
+  pub label-step-unsound : isTable t ≡ true → sound (state t) ≡ false → labelStep t q ≡ refuse 13 t
+  unfolding labelStep
+  label-step-unsound i s = past _ _ i ∙ stopped _ _ s
+
+  pub label-step-none : isTable t ≡ true → sound (state t) ≡ true → isImage (state t) ≡ false → labelStep t q ≡ refuse 14 t
+  unfolding labelStep
+  label-step-none i s n = past _ _ i ∙ past _ _ s ∙ stopped _ _ n
+
+  pub label-step-image : isTable t ≡ true → sound (state t) ≡ true → isImage (state t) ≡ true → labelStep t q ≡ translated roleStep t q
+  unfolding labelStep
+  label-step-image i s n = past _ _ i ∙ past _ _ s ∙ past _ _ n
+
+-- ---- past refusals 12, 15 and 16
+
+module _ (t : List ℕ) (code a b c : ℕ) (e : length t ≡ tableLength) (l : 1 ≤ code) (h : code ≤ 5) (i : inRange (ask code a b c) ≡ true) where
+  pub image-step-plan : {r : Request} → decode (ask code a b c) ≡ r → imageStep t (ask code a b c) ≡ carryOut soundStep t (plan soundStep t r)
+  image-step-plan z =
+      image-step-table t (ask code a b c) (is-table t e)
+      ∙ translated-plan soundStep t (ask code a b c) (is-code (ask code a b c) l h) i
+      ∙ ap (λ (p : Request). carryOut soundStep t (plan soundStep t p)) z

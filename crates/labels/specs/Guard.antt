@@ -1,0 +1,81 @@
+-- The label layer of 01: each label request as role requests made on its behalf, its answer and the figure spent.
+use Prim.Native.Nat.{ℕ, _+_}
+use mathlib.Core.Bool.{Bool, not}
+use mathlib.Core.List.{List, [], _∷_}
+use lib.Dec.{eqb}
+use lib.ListN.{length}
+use Rattle.bits.specs.Truth.{if_then_else_}
+use Rattle.table.specs.Sound.{sound}
+use Rattle.table.specs.Table.{isTable, state}
+use Rattle.roles.specs.Request.{Ask, ask, Outcome, refuse}
+use Rattle.roles.specs.Guard.{roleStep, soundStep}
+use Rattle.machine.specs.Machine.{Request, opening, closing, starting, ending, reclearing, isCode, inRange, decode}
+use Rattle.image.specs.Image.{machineOf, isImage}
+
+-- the translation of a label request: its answer, and the role requests made on its behalf in order
+pub record Plan : Type 0 where
+  pub answer : ℕ
+  pub requests : List Ask
+
+-- a role guard: the outcome of a role request on a table
+abbrev pub RoleGuard : Type 0
+RoleGuard = List ℕ → Ask → Outcome (List ℕ)
+
+-- one request, whose answer is the label request's
+unfoldable pub single : RoleGuard → List ℕ → Ask → Plan
+single guard t q = record { answer = guard t q .answer; requests = q ∷ [] }
+
+-- code 3; after a yes code 5 for y; then code 4 after a no, or code 5 for 32 + y
+unfoldable pub startPlan : Bool → Bool → ℕ → ℕ → ℕ → Plan
+startPlan started cleared s u y =
+    if not started then record { answer = 0; requests = ask 3 s u 0 ∷ [] } else
+    if not cleared then record { answer = 0; requests = ask 3 s u 0 ∷ ask 5 s y 0 ∷ ask 4 s 0 0 ∷ [] } else
+    record { answer = 1; requests = ask 3 s u 0 ∷ ask 5 s y 0 ∷ ask 5 s (32 + y) 0 ∷ [] }
+
+-- nothing where c is the clearance old already; else assign c and deassign old, and after a no deassign c
+unfoldable pub reclearPlan : ℕ → Bool → ℕ → ℕ → Plan
+reclearPlan old deassigned u c =
+    if eqb old c then record { answer = 1; requests = [] } else
+    if not deassigned then record { answer = 0; requests = ask 7 u c 0 ∷ ask 8 u old 0 ∷ ask 8 u c 0 ∷ [] } else
+    record { answer = 1; requests = ask 7 u c 0 ∷ ask 8 u old 0 ∷ [] }
+
+unfoldable pub saysYes : RoleGuard → List ℕ → Ask → Bool
+saysYes guard t q = eqb (guard t q .answer) 1
+
+unfoldable pub plan : RoleGuard → List ℕ → Request → Plan
+plan guard t (opening s o x) = single guard t (ask 1 s o x)
+plan guard t (closing s o x) = single guard t (ask 2 s o x)
+plan guard t (starting s u y) =
+    startPlan (saysYes guard t (ask 3 s u 0)) (saysYes guard (guard t (ask 3 s u 0) .state) (ask 5 s y 0)) s u y
+plan guard t (ending s) = single guard t (ask 4 s 0 0)
+plan guard t (reclearing u c) =
+    let old = machineOf (state t) .clearance u in
+    reclearPlan old (saysYes guard (guard t (ask 7 u c 0) .state) (ask 8 u old 0)) u c
+
+-- the table after the requests
+unfoldable pub run : RoleGuard → List ℕ → List Ask → List ℕ
+run guard t [] = t
+run guard t (q ∷ qs) = run guard (guard t q .state) qs
+
+-- spent is the number of role requests made
+unfoldable pub carryOut : RoleGuard → List ℕ → Plan → Outcome (List ℕ)
+carryOut guard t p = record { answer = p .answer; spent = length (p .requests); state = run guard t (p .requests) }
+
+-- refusals 15 and 16, then the translation
+unfoldable pub translated : RoleGuard → List ℕ → Ask → Outcome (List ℕ)
+translated guard t q =
+    if not (isCode q) then refuse 15 t else
+    if not (inRange q) then refuse 16 t else
+    carryOut guard t (plan guard t (decode q))
+
+-- a label request: its answer, what it spent, and the table after it
+unfoldable pub labelStep : List ℕ → Ask → Outcome (List ℕ)
+labelStep t q =
+    if not (isTable t) then refuse 12 t else
+    if not (sound (state t)) then refuse 13 t else
+    if not (isImage (state t)) then refuse 14 t else
+    translated roleStep t q
+
+-- a label request without the tests of soundness and image: on a sound image it is `labelStep` (Claims)
+unfoldable pub imageStep : List ℕ → Ask → Outcome (List ℕ)
+imageStep t q = if not (isTable t) then refuse 12 t else translated soundStep t q

@@ -1,0 +1,179 @@
+// The label layer: five label requests on a lent table, carried out by role requests.
+use roles::Answer;
+use roles::Refusal;
+use table::layout::ASSIGNED;
+use table::layout::WORDS;
+ghost use mathlib.Core.Path.{_≡_};
+ghost use Prim.Native.Nat.{_-_, _≤_, _<_};
+ghost use mathlib.Core.List.{[]};
+ghost use lib.ListN.{length, getD};
+ghost use Rattle.table.specs.Table.{state};
+ghost use Rattle.roles.specs.Request.{ask};
+ghost use Rattle.roles.specs.Guard.{soundStep};
+ghost use Rattle.roles.specs.Answer.{numberOf};
+ghost use Rattle.machine.specs.Machine.{starting, reclearing, limits, inRange};
+ghost use Rattle.labels.specs.Guard.{single, saysYes, plan, carryOut, labelStep, imageStep};
+ghost use Rattle.labels.specs.Reply.{Replied};
+
+// An answer, and the number of role requests that were made for it.
+pub struct LabelAnswer {
+    pub answer: Answer,
+    pub spent: u64,
+}
+
+// A refusal spends nothing.
+fn refused(why: Refusal) -> LabelAnswer
+    ensures answer { λ r. ⌜ numberOf (r .answer) ≡ numberOf (Answer.Refused why) ⌝ }
+    ensures spent { λ r. ⌜ r .spent ≡ 0 ⌝ }
+{
+    LabelAnswer {
+        answer: Answer::Refused(why),
+        spent: 0,
+    }
+}
+
+// Makes one role request; whether its answer is yes.
+fn is_yes(t: &mut [u64], code: u64, a: u64, b: u64) -> bool
+    ensures answer { λ r. ⌜ r ≡ saysYes soundStep (now (t .entry)) (ask code a b 0) ⌝ }
+    ensures table { λ r. ⌜ now (t .exit) ≡ soundStep (now (t .entry)) (ask code a b 0) .state ⌝ }
+{
+    roles::number(roles::serve(t, code, a, b, 0)) == 1
+}
+
+// A label request that is one role request.
+fn single(t: &mut [u64], code: u64, a: u64, b: u64, c: u64) -> LabelAnswer
+    ensures { λ r. ⌜ Replied r (now (t .exit)) (carryOut soundStep (now (t .entry)) (single soundStep (now (t .entry)) (ask code a b c))) ⌝ }
+{
+    LabelAnswer {
+        answer: roles::serve(t, code, a, b, c),
+        spent: 1,
+    }
+}
+
+// Session s starts for user u at level y: it gets the read role and the write role of its level.
+fn start(t: &mut [u64], s: u64, u: u64, y: u64) -> LabelAnswer
+    requires { ⌜ y < 32 ⌝ }
+    ensures { λ r. ⌜ Replied r (now (t .exit)) (carryOut soundStep (now (t .entry)) (plan soundStep (now (t .entry)) (starting s u y))) ⌝ }
+{
+    if !is_yes(t, 3, s, u) {
+        return LabelAnswer {
+            answer: Answer::No,
+            spent: 1,
+        };
+    }
+    if !is_yes(t, 5, s, y) {
+        is_yes(t, 4, s, 0);
+        return LabelAnswer {
+            answer: Answer::No,
+            spent: 3, // codes 3, 5 and 4
+        };
+    }
+    is_yes(t, 5, s, 32 + y);
+    LabelAnswer {
+        answer: Answer::Yes,
+        spent: 3, // codes 3, 5 and 5
+    }
+}
+
+// User u gets the clearance c: the new role before the old one is taken, and taken back where a session needs the old one.
+fn reclear(t: &mut [u64], u: u64, c: u64) -> LabelAnswer
+    requires { ⌜ (length (now t) ≡ 968) × (u < 64) ⌝ }
+    ensures { λ r. ⌜ Replied r (now (t .exit)) (carryOut soundStep (now (t .entry)) (plan soundStep (now (t .entry)) (reclearing u c))) ⌝ }
+{
+    let old = image::label_of(t[ASSIGNED + u as usize]) as u64;
+    if old == c {
+        return LabelAnswer {
+            answer: Answer::Yes,
+            spent: 0,
+        };
+    }
+    is_yes(t, 7, u, c);
+    if !is_yes(t, 8, u, old) {
+        is_yes(t, 8, u, c);
+        return LabelAnswer {
+            answer: Answer::No,
+            spent: 3, // codes 7, 8 and 8
+        };
+    }
+    LabelAnswer {
+        answer: Answer::Yes,
+        spent: 2, // codes 7 and 8
+    }
+}
+
+// The largest value of each argument, a row for each code from 1 on; one that is not listed must be 0.
+const LIMITS: [[u64; 3]; 5] = [
+    [31, 63, 1],
+    [31, 63, 1],
+    [31, 63, 31],
+    [31, 0, 0],
+    [63, 31, 0],
+];
+
+// The largest value of argument i, 0 to 2, of a code from 1 to 5.
+fn limit(code: u64, i: usize) -> u64
+    requires { ⌜ (1 ≤ code) × (code ≤ 5) × (i < 3) ⌝ }
+    ensures { λ r. ⌜ r ≡ getD (getD limits (code - 1) []) i 0 ⌝ }
+{
+    let row = (code - 1) as usize;
+    LIMITS[row][i]
+}
+
+// Whether the arguments of a code from 1 to 5 are within its limits.
+fn in_range(code: u64, a: u64, b: u64, c: u64) -> bool
+    requires { ⌜ (1 ≤ code) × (code ≤ 5) ⌝ }
+    ensures { λ r. ⌜ r ≡ inRange (ask code a b c) ⌝ }
+{
+    if limit(code, 0) < a {
+        return false;
+    }
+    if limit(code, 1) < b {
+        return false;
+    }
+    c <= limit(code, 2)
+}
+
+// A label request on a table that is known to be a sound image: `request` without these two tests.
+pub fn serve(t: &mut [u64], code: u64, a: u64, b: u64, c: u64) -> LabelAnswer
+    ensures answer { λ r. ⌜ numberOf (r .answer) ≡ imageStep (now (t .entry)) (ask code a b c) .answer ⌝ }
+    ensures spent { λ r. ⌜ r .spent ≡ imageStep (now (t .entry)) (ask code a b c) .spent ⌝ }
+    ensures table { λ r. ⌜ now (t .exit) ≡ imageStep (now (t .entry)) (ask code a b c) .state ⌝ }
+{
+    if t.len() != WORDS {
+        return refused(Refusal::WrongLength);
+    }
+    if code < 1 {
+        return refused(Refusal::BadCode);
+    }
+    if 5 < code {
+        return refused(Refusal::BadCode);
+    }
+    if !in_range(code, a, b, c) {
+        return refused(Refusal::BadArgument);
+    }
+    match code {
+        1 => single(t, 1, a, b, c),
+        2 => single(t, 2, a, b, c),
+        3 => start(t, a, b, c),
+        4 => single(t, 4, a, 0, 0),
+        _ => reclear(t, a, b),
+    }
+}
+
+// A label request on a lent table of any length and contents.
+pub fn request(t: &mut [u64], code: u64, a: u64, b: u64, c: u64) -> LabelAnswer
+    ensures answer { λ r. ⌜ numberOf (r .answer) ≡ labelStep (now (t .entry)) (ask code a b c) .answer ⌝ }
+    ensures spent { λ r. ⌜ r .spent ≡ labelStep (now (t .entry)) (ask code a b c) .spent ⌝ }
+    ensures table { λ r. ⌜ now (t .exit) ≡ labelStep (now (t .entry)) (ask code a b c) .state ⌝ }
+{
+    if t.len() != WORDS {
+        return refused(Refusal::WrongLength);
+    }
+    if !sound::is_sound(t) {
+        return refused(Refusal::Unsound);
+    }
+    if !image::is_image(t) {
+        return refused(Refusal::NoImage);
+    }
+    serve(t, code, a, b, c)
+}

@@ -1,0 +1,6 @@
+-- The crate's laws, in reading order.
+pub mod Order
+pub mod Seats
+pub mod Steps
+pub mod Wall
+pub mod Claims

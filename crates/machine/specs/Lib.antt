@@ -1,0 +1,5 @@
+-- The crate's definitions, in reading order.
+pub mod Label
+pub mod Machine
+pub mod Wall
+pub mod Claims

@@ -1,0 +1,141 @@
+-- The Bell-LaPadula machine of 01 ("Labels"): its state, its five requests, and the answer, the figure and the next state of
+-- each. Users and objects are 0 to 63, sessions 0 to 31, labels 0 to 31; mode 0 reads, mode 1 writes without reading.
+use Prim.Native.Nat.{ℕ, zero, suc, _-_}
+use mathlib.Core.Bool.{Bool, true, false, not}
+use mathlib.Core.List.{List, [], _∷_}
+use lib.Dec.{eqb, leb}
+use lib.ListN.{getD}
+use Rattle.bits.specs.Truth.{_and_, _implies_, if_then_else_}
+use Rattle.bits.specs.Sets.{all}
+use Rattle.table.specs.State.{upd}
+use Rattle.roles.specs.Request.{Ask, Outcome, refuse, decide, within}
+use Rattle.machine.specs.Label.{dominates}
+
+-- a session is idle, or it has a user and a level
+pub data Seat : Type 0 where
+  idle : Seat
+  at : (user level : ℕ) → Seat
+
+pub record Machine : Type 0 where
+  -- of user u
+  pub clearance : ℕ → ℕ
+  -- of object o; no request changes it
+  pub label : ℕ → ℕ
+  -- of session s
+  pub seat : ℕ → Seat
+  -- session s holds object o open in mode x
+  pub held : ℕ → ℕ → ℕ → Bool
+
+-- ---- requests
+
+pub data Request : Type 0 where
+  opening : (s o x : ℕ) → Request
+  closing : (s o x : ℕ) → Request
+  starting : (s u y : ℕ) → Request
+  ending : (s : ℕ) → Request
+  reclearing : (u c : ℕ) → Request
+
+unfoldable pub isCode : Ask → Bool
+isCode q = leb 1 (q .code) and leb (q .code) 5
+
+-- the largest value of each argument, a row for each code from 1 on; one that is not listed must be 0
+unfoldable pub limits : List (List ℕ)
+limits =
+    (31 ∷ 63 ∷ 1 ∷ [])
+    ∷ (31 ∷ 63 ∷ 1 ∷ [])
+    ∷ (31 ∷ 63 ∷ 31 ∷ [])
+    ∷ (31 ∷ 0 ∷ 0 ∷ [])
+    ∷ (63 ∷ 31 ∷ 0 ∷ [])
+    ∷ []
+
+unfoldable pub inRange : Ask → Bool
+inRange q = within (getD limits (q .code - 1) []) q
+
+-- the request of a code from 1 to 5
+unfoldable pub decode : Ask → Request
+decode q =
+    getD
+    (opening (q .a) (q .b) (q .c)
+    ∷ closing (q .a) (q .b) (q .c)
+    ∷ starting (q .a) (q .b) (q .c)
+    ∷ ending (q .a)
+    ∷ reclearing (q .a) (q .b)
+    ∷ [])
+    (q .code - 1)
+    (reclearing (q .a) (q .b))
+
+-- ---- what each request does
+
+unfoldable pub isIdle : Seat → Bool
+isIdle idle = true
+isIdle (at u y) = false
+
+-- a session may open an object of label l in mode x: it reads what its level dominates and writes what dominates its level
+unfoldable pub mayOpen : Seat → ℕ → ℕ → Bool
+mayOpen idle l x = false
+mayOpen (at u y) l zero = dominates y l
+mayOpen (at u y) l (suc x) = dominates l y
+
+-- c dominates the level of the session, if it is one of user u
+unfoldable pub fits : ℕ → ℕ → Seat → Bool
+fits u c idle = true
+fits u c (at v y) = eqb v u implies dominates c y
+
+-- the answer is yes
+unfoldable pub allowed : Machine → Request → Bool
+allowed m (opening s o x) = mayOpen (m .seat s) (m .label o) x
+allowed m (closing s o x) = true
+allowed m (starting s u y) = isIdle (m .seat s) and dominates (m .clearance u) y
+allowed m (ending s) = not (isIdle (m .seat s))
+allowed m (reclearing u c) = all 32 (λ s. fits u c (m .seat s))
+
+-- s holds o in mode x, or no longer does; a session with nothing open; a user with another clearance
+abbrev pub withHeld : Machine → ℕ → ℕ → ℕ → Bool → Machine
+withHeld m s o x b = record {
+  clearance = m .clearance;
+  label = m .label;
+  seat = m .seat;
+  held = λ p q y. if eqb p s and eqb q o and eqb y x then b else m .held p q y;
+}
+
+abbrev pub withSeat : Machine → ℕ → Seat → Machine
+withSeat m s k = record {
+  clearance = m .clearance;
+  label = m .label;
+  seat = upd (m .seat) s k;
+  held = upd (m .held) s (λ o x. false);
+}
+
+abbrev pub withClearance : Machine → ℕ → ℕ → Machine
+withClearance m u c = record {
+  clearance = upd (m .clearance) u c;
+  label = m .label;
+  seat = m .seat;
+  held = m .held;
+}
+
+-- the state after a yes
+unfoldable pub next : Machine → Request → Machine
+next m (opening s o x) = withHeld m s o x true
+next m (closing s o x) = withHeld m s o x false
+next m (starting s u y) = withSeat m s (at u y)
+next m (ending s) = withSeat m s idle
+next m (reclearing u c) = withClearance m u c
+
+-- the figure that goes with yes or no
+unfoldable pub figure : Machine → Request → Bool → ℕ
+figure m (opening s o x) b = 1
+figure m (closing s o x) b = 1
+figure m (starting s u y) b = if isIdle (m .seat s) then 3 else 1
+figure m (ending s) b = 1
+figure m (reclearing u c) b = if eqb (m .clearance u) c then 0 else (if b then 2 else 3)
+
+unfoldable pub act : Machine → Request → Outcome Machine
+act m r = decide (allowed m r) (figure m r true) (figure m r false) (next m r) m
+
+-- refusals 15 and 16, then the request
+unfoldable pub step : Machine → Ask → Outcome Machine
+step m q =
+    if not (isCode q) then refuse 15 m else
+    if not (inRange q) then refuse 16 m else
+    act m (decode q)

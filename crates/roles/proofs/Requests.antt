@@ -1,0 +1,108 @@
+-- What each request that the label layer makes comes to on the table of a sound state, in the terms of that state alone: the
+-- laws by which other crates know the role guard. Assumes nothing.
+use Prim.Native.Nat.{ℕ, suc, _≤_, _<_}
+use mathlib.Core.Path.{_≡_, refl, sym, ap, _∙_}
+use mathlib.Core.Bool.{Bool, true, not}
+use mathlib.Core.List.{List}
+use native.Mathlib.Omega.{arith}
+use native.Mathlib.Nat.{le-of-suc-le-suc}
+use lib.ListN.{getD}
+use borrow.Author.Tests.{le-leb}
+use Rattle.bits.specs.Sets.{_with_, _without_}
+use Rattle.bits.proofs.Truth.{and-intro}
+use Rattle.table.specs.State.{State, idle, mayActivate, effective, upd, withAssigned, withOwner, withActive, withHolds}
+use Rattle.table.specs.Sound.{Sound}
+use Rattle.table.specs.Table.{encode}
+use Rattle.table.proofs.Sound.{sound-elim, sound-intro}
+use Rattle.sound.specs.Answers.{isSound, sessionsFit}
+use Rattle.sound.proofs.Answers.{shown-sound}
+use Rattle.roles.specs.Request.{Ask, ask, refuse, accept, decide, within}
+use Rattle.roles.specs.Roles.{deassigns, limits, inRange, decode, known, allowed, changed}
+use Rattle.roles.specs.Guard.{roleStep, soundStep, allowedSound}
+use Rattle.roles.proofs.Codes.{is-code}
+use Rattle.roles.proofs.Same.{allowed-same}
+use Rattle.roles.proofs.Steps.{step-encode, step-sound}
+
+-- a refusal, field by field
+pub refuse-is : {S : Type 0} (n : ℕ) (old : S) → refuse n old ≡ record { answer = n; spent = 0; state = old }
+unfolding refuse
+refuse-is n old = refl
+
+-- an acceptance, field by field
+pub accept-is : {S : Type 0} (new : S) → accept new ≡ record { answer = 1; spent = 0; state = new }
+unfolding accept
+accept-is new = refl
+
+-- arguments within their largest values
+pub within-intro : (largest : List ℕ) (code a b c : ℕ) → a ≤ getD largest 0 0 → b ≤ getD largest 1 0 → c ≤ getD largest 2 0
+    → within largest (ask code a b c) ≡ true
+unfolding within
+within-intro largest code a b c h k l = and-intro (le-leb _ _ h) (and-intro (le-leb _ _ k) (le-leb _ _ l))
+
+-- the table of a sound state is sound, and a state whose table is sound is
+pub encode-sound : (S : State) → Sound S → isSound (encode S) ≡ true
+encode-sound S f = shown-sound S refl ∙ sound-intro S f
+
+pub sound-encode : (S : State) → isSound (encode S) ≡ true → Sound S
+sound-encode S e = sound-elim S (sym (shown-sound S refl) ∙ e)
+
+-- the state that a request leads to is sound
+pub next-sound : (S S′ : State) → Sound S → (q : Ask) → roleStep (encode S) q .state ≡ encode S′ → Sound S′
+next-sound S S′ f q e = sound-encode S′ (sym (ap isSound e) ∙ step-sound (encode S) q (encode-sound S f))
+
+module _ (S : State) (f : Sound S) where
+  pub open-is : (s o x : ℕ) → s < 32 → o < 64 → x < 8
+      → roleStep (encode S) (ask 1 s o x)
+      ≡ decide (effective S s x o) 1 1 (encode (withHolds S s (upd (S .holds s) x (S .holds s x with o)))) (encode S)
+  unfolding inRange limits decode known allowed changed
+  open-is s o x hs ho hx =
+      step-encode S f (ask 1 s o x) (is-code _ (omega arith) (omega arith))
+      (within-intro _ 1 s o x (le-of-suc-le-suc hs) (le-of-suc-le-suc ho) (le-of-suc-le-suc hx)) refl
+
+  pub close-is : (s o x : ℕ) → s < 32 → o < 64 → x < 8
+      → roleStep (encode S) (ask 2 s o x)
+      ≡ decide true 1 1 (encode (withHolds S s (upd (S .holds s) x (S .holds s x without o)))) (encode S)
+  unfolding inRange limits decode known allowed changed
+  close-is s o x hs ho hx =
+      step-encode S f (ask 2 s o x) (is-code _ (omega arith) (omega arith))
+      (within-intro _ 2 s o x (le-of-suc-le-suc hs) (le-of-suc-le-suc ho) (le-of-suc-le-suc hx)) refl
+
+  pub start-is : (s u : ℕ) → s < 32 → u < 64
+      → roleStep (encode S) (ask 3 s u 0) ≡ decide (idle S s) 1 1 (encode (withActive (withOwner S s (suc u)) s 0)) (encode S)
+  unfolding inRange limits decode known allowed changed
+  start-is s u hs hu =
+      step-encode S f (ask 3 s u 0) (is-code _ (omega arith) (omega arith))
+      (within-intro _ 3 s u 0 (le-of-suc-le-suc hs) (le-of-suc-le-suc hu) (omega arith)) refl
+
+  pub end-is : (s : ℕ) → s < 32
+      → roleStep (encode S) (ask 4 s 0 0)
+      ≡ decide (not (idle S s)) 1 1 (encode (withHolds (withActive (withOwner S s 0) s 0) s (λ x. 0))) (encode S)
+  unfolding inRange limits decode known allowed changed
+  end-is s hs =
+      step-encode S f (ask 4 s 0 0) (is-code _ (omega arith) (omega arith))
+      (within-intro _ 4 s 0 0 (le-of-suc-le-suc hs) (omega arith) (omega arith)) refl
+
+  pub activate-is : (s r : ℕ) → s < 32 → r < 64
+      → roleStep (encode S) (ask 5 s r 0) ≡ decide (mayActivate S s r) 1 1 (encode (withActive S s (S .active s with r))) (encode S)
+  unfolding inRange limits decode known allowed changed
+  activate-is s r hs hr =
+      step-encode S f (ask 5 s r 0) (is-code _ (omega arith) (omega arith))
+      (within-intro _ 5 s r 0 (le-of-suc-le-suc hs) (le-of-suc-le-suc hr) (omega arith)) refl
+
+  pub assign-is : (u r : ℕ) → u < 64 → r < 64
+      → roleStep (encode S) (ask 7 u r 0) ≡ decide true 1 1 (encode (withAssigned S u (S .assigned u with r))) (encode S)
+  unfolding inRange limits decode known allowed changed
+  assign-is u r hu hr =
+      step-encode S f (ask 7 u r 0) (is-code _ (omega arith) (omega arith))
+      (within-intro _ 7 u r 0 (le-of-suc-le-suc hu) (le-of-suc-le-suc hr) (omega arith)) refl
+
+  -- a deassignment is judged by the active roles of the user's sessions
+  pub deassign-is : (u r : ℕ) → u < 64 → r < 64
+      → roleStep (encode S) (ask 8 u r 0)
+      ≡ decide (sessionsFit (withAssigned S u (S .assigned u without r)) u) 1 1
+      (encode (withAssigned S u (S .assigned u without r))) (encode S)
+  unfolding inRange limits decode known changed allowedSound
+  deassign-is u r hu hr =
+      step-encode S f (ask 8 u r 0) (is-code _ (omega arith) (omega arith))
+      (within-intro _ 8 u r 0 (le-of-suc-le-suc hu) (le-of-suc-le-suc hr) (omega arith)) refl
+      ∙ ap (λ (b : Bool). decide b 1 1 (encode (changed S (deassigns u r))) (encode S)) (sym (allowed-same S f (deassigns u r) (hu, hr)))
