@@ -7,4 +7,5 @@ pub mod Same
 pub mod Keeping
 pub mod Steps
 pub mod Requests
+pub mod Playing
 pub mod Claims

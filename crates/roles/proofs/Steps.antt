@@ -103,7 +103,7 @@ module _ {S S′ : State} (a : Agree S S′) where
   allowed-agree f (grants r x o) h = refl
   allowed-agree f (revokes r x o) h = sound-agree (changed-agree (revokes r x o) h)
 
-  known-agree : (r : Request) → Ranged r → known S r ≡ known S′ r
+  pub known-agree : (r : Request) → Ranged r → known S r ≡ known S′ r
   unfolding known
   known-agree (opens s o x) h = refl
   known-agree (closes s o x) h = refl
@@ -121,7 +121,7 @@ module _ (S : State) (f : Sound S) (q : Ask) (c : isCode q ≡ true) (r : inRang
   table-sound : isSound (encode S) ≡ true
   table-sound = shown-sound S refl ∙ sound-intro S f
 
-  reach : Ranged (decode q)
+  pub reach : Ranged (decode q)
   reach = let k = is-code-elim q c in ranged (q .code) (q .a) (q .b) (q .c) (k .0) (k .1) r
 
   pub step-encode : known S (decode q) ≡ true → roleStep (encode S) q ≡ decide (allowed S (decode q)) 1 1 (encode (changed S (decode q))) (encode S)

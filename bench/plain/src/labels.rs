@@ -1,0 +1,117 @@
+//! The label requests on a table known to be the sound image of a machine state, and the label set-up.
+
+use crate::roles::{check, close, end, open};
+use crate::table::{has, Table, ACTIVE, ASSIGNED, GRANTED, OWNER, PERMITTED};
+use crate::{yes_or_no, NO, YES};
+
+/// The largest value of each argument, a row for each code from 1 on.
+const LARGEST: [[u64; 3]; 5] = [[31, 63, 1], [31, 63, 1], [31, 63, 31], [31, 0, 0], [63, 31, 0]];
+
+const fn dominates(a: u64, b: u64) -> bool {
+    a / 8 >= b / 8 && (b % 8) & !(a % 8) == 0
+}
+
+/// The first 64 words of every image.
+const SENIORITY: [u64; 64] = {
+    let mut rows = [0; 64];
+    let mut l = 0;
+    while l < 32 {
+        let mut k = 0;
+        while k < 32 {
+            if dominates(l, k) {
+                rows[l as usize] |= 1 << k;
+            }
+            if dominates(k, l) {
+                rows[32 + l as usize] |= 1 << (32 + k);
+            }
+            k += 1;
+        }
+        l += 1;
+    }
+    rows
+};
+
+/// The permissions of every image.
+const PERMISSIONS: [u64; 8] = [u64::MAX, u64::MAX, 0, 0, 0, 0, 0, 0];
+
+/// The role of every user beside the clearance.
+const LOWEST_WRITER: u64 = 1 << 32;
+
+#[inline]
+fn is_one_label(word: u64) -> bool {
+    word.is_power_of_two() && word >> 32 == 0
+}
+
+/// Whether a sound table is the image of a machine state.
+pub fn is_image(t: &Table) -> bool {
+    let is_clearance = |word: &u64| word & LOWEST_WRITER != 0 && is_one_label(word ^ LOWEST_WRITER);
+    let is_granted = |o: usize| is_one_label(t[GRANTED + o]) && t[GRANTED + 64 + o] == t[GRANTED + o] << 32;
+    let is_seat = |s: usize| {
+        let level = t[ACTIVE + s] & 0xffff_ffff;
+        t[OWNER + s] == 0 || is_one_label(level) && t[ACTIVE + s] == level | level << 32
+    };
+    t[..PERMITTED] == SENIORITY
+        && t[PERMITTED..ASSIGNED] == PERMISSIONS
+        && t[ASSIGNED..GRANTED].iter().all(is_clearance)
+        && (0..64).all(is_granted)
+        && (0..32).all(is_seat)
+}
+
+/// A label request on a sound image: refusals 15 and 16, then yes or no with spent.
+pub fn serve(t: &mut Table, code: u64, a: u64, b: u64, c: u64) -> Result<(u64, u64), u64> {
+    check(&LARGEST, code, a, b, c)?;
+    let (a, b, c) = (a as usize, b as usize, c as usize);
+    Ok(match code {
+        1 => (yes_or_no(open(t, a, b, c)), 1),
+        2 => (yes_or_no(close(t, a, b, c)), 1),
+        3 => start(t, a, b, c),
+        4 => (yes_or_no(end(t, a)), 1),
+        _ => reclear(t, a, b),
+    })
+}
+
+fn start(t: &mut Table, s: usize, u: usize, y: usize) -> (u64, u64) {
+    if t[OWNER + s] != 0 {
+        return (NO, 1);
+    }
+    let clearance = t[ASSIGNED + u].trailing_zeros() as usize;
+    if !has(SENIORITY[clearance], y) {
+        return (NO, 3);
+    }
+    t[OWNER + s] = u as u64 + 1;
+    t[ACTIVE + s] = 1 << y | 1 << (32 + y);
+    (YES, 3)
+}
+
+fn reclear(t: &mut Table, u: usize, c: usize) -> (u64, u64) {
+    if has(t[ASSIGNED + u], c) {
+        return (YES, 0);
+    }
+    let keeps = |s: usize| {
+        let level = t[ACTIVE + s] & 0xffff_ffff;
+        t[OWNER + s] != u as u64 + 1 || level & !SENIORITY[c] == 0
+    };
+    if !(0..32).all(keeps) {
+        return (NO, 3);
+    }
+    t[ASSIGNED + u] = LOWEST_WRITER | 1 << c;
+    (YES, 2)
+}
+
+/// The image with all sessions idle; refusal 19.
+pub fn set_up(t: &mut Table, clearances: &[u8; 64], labels: &[u8; 64]) -> Result<u64, u64> {
+    if clearances.iter().chain(labels).any(|label| *label > 31) {
+        return Err(19);
+    }
+    t.fill(0);
+    t[..PERMITTED].copy_from_slice(&SENIORITY);
+    t[PERMITTED..ASSIGNED].copy_from_slice(&PERMISSIONS);
+    for (at, clearance) in clearances.iter().enumerate() {
+        t[ASSIGNED + at] = LOWEST_WRITER | 1 << clearance;
+    }
+    for (at, label) in labels.iter().enumerate() {
+        t[GRANTED + at] = 1 << label;
+        t[GRANTED + 64 + at] = 1 << (32 + label);
+    }
+    Ok(YES)
+}

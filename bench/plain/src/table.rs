@@ -1,0 +1,108 @@
+//! The table, authorised roles, effective permissions and soundness.
+
+pub const PERMITTED: usize = 64;
+pub const ASSIGNED: usize = 72;
+pub const GRANTED: usize = 136;
+pub const OWNER: usize = 648;
+pub const ACTIVE: usize = 680;
+pub const HOLDS: usize = 712;
+pub const WORDS: usize = 968;
+
+pub type Table = [u64; WORDS];
+
+/// The members of a word, the lowest first.
+pub struct Members(pub u64);
+
+impl Iterator for Members {
+    type Item = usize;
+
+    #[inline]
+    fn next(&mut self) -> Option<usize> {
+        if self.0 == 0 {
+            return None;
+        }
+        let lowest = self.0.trailing_zeros() as usize;
+        self.0 &= self.0 - 1;
+        Some(lowest)
+    }
+}
+
+#[inline]
+pub fn has(word: u64, member: usize) -> bool {
+    word >> member & 1 == 1
+}
+
+#[inline]
+fn is_subset(word: u64, of: u64) -> bool {
+    word & !of == 0
+}
+
+/// The roles and all their juniors.
+#[inline]
+pub fn covered(t: &Table, roles: u64) -> u64 {
+    Members(roles).fold(0, |all, role| all | t[role])
+}
+
+#[inline]
+pub fn authorised(t: &Table, user: usize) -> u64 {
+    covered(t, t[ASSIGNED + user])
+}
+
+/// The effective permissions of a session, a word of objects for each mode.
+pub fn permissions_of(t: &Table, s: usize) -> [u64; 8] {
+    let roles = covered(t, t[ACTIVE + s]);
+    if roles == 0 {
+        return [0; 8];
+    }
+    std::array::from_fn(|x| {
+        let granted = |o: &usize| t[GRANTED + 64 * x + o] & roles != 0;
+        Members(t[PERMITTED + x]).filter(granted).fold(0, |all, o| all | 1 << o)
+    })
+}
+
+/// Whether a pair is effective for a session with these roles active.
+#[inline]
+pub fn is_effective(t: &Table, active: u64, x: usize, o: usize) -> bool {
+    has(t[PERMITTED + x], o) && t[GRANTED + 64 * x + o] & covered(t, active) != 0
+}
+
+/// Whether all that a session holds open is granted to one of its roles or of their juniors.
+#[inline]
+pub fn openings_fit(t: &Table, s: usize) -> bool {
+    let roles = covered(t, t[ACTIVE + s]);
+    (0..8).all(|x| Members(t[HOLDS + 8 * s + x]).all(|o| t[GRANTED + 64 * x + o] & roles != 0))
+}
+
+/// Whether role r is its own junior, and every other junior is not senior to it and has no junior that r has not.
+#[inline]
+fn role_fits(t: &Table, r: usize) -> bool {
+    let below = t[r];
+    has(below, r) && Members(below & !(1 << r)).all(|q| !has(t[q], r) && is_subset(t[q], below))
+}
+
+/// Whether nothing is granted but permissions.
+#[inline]
+fn grants_fit(t: &Table, x: usize) -> bool {
+    let granted = &t[GRANTED + 64 * x..GRANTED + 64 * x + 64];
+    match t[PERMITTED + x] {
+        0 => granted.iter().fold(0, |all, roles| all | roles) == 0,
+        permitted => Members(!permitted).all(|o| granted[o] == 0),
+    }
+}
+
+/// Whether the active roles of a session are authorised and its openings effective.
+#[inline]
+fn session_fits(t: &Table, s: usize) -> bool {
+    let active = t[ACTIVE + s];
+    let roles_fit = match t[OWNER + s] {
+        0 => active == 0,
+        owner @ 1..=64 => is_subset(active, authorised(t, owner as usize - 1)),
+        _ => false,
+    };
+    roles_fit && openings_fit(t, s)
+}
+
+/// Whether the table is sound.
+pub fn is_sound(t: &Table) -> bool {
+    (0..64).all(|r| role_fits(t, r)) && (0..8).all(|x| grants_fit(t, x)) && (0..32).all(|s| session_fits(t, s))
+}

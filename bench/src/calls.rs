@@ -1,0 +1,99 @@
+//! The rows: a call, the table that it is made on, and its answer.
+
+use crate::tables;
+use compare::{Guard, PLAIN};
+
+/// What is asked of a guard and a table; its answer.
+type Ask = Box<dyn Fn(&Guard, &mut [u64]) -> u64>;
+
+/// A call that is measured.
+pub struct Call {
+    pub name: &'static str,
+    pub table: Vec<u64>,
+    pub ask: Ask,
+    pub answer: u64,
+    /// The words that the call changes, as they were.
+    pub restored: Vec<(usize, u64)>,
+}
+
+impl Call {
+    fn new(name: &'static str, table: &[u64], ask: Ask) -> Call {
+        let mut after = table.to_vec();
+        let answer = ask(&PLAIN, &mut after);
+        let changed = (0..table.len()).filter(|at| table[*at] != after[*at]);
+        let restored = changed.map(|at| (at, table[at])).collect();
+        Call { name, table: table.to_vec(), ask, answer, restored }
+    }
+}
+
+fn role_ask([code, a, b, c]: [u64; 4]) -> Ask {
+    Box::new(move |guard, table| (guard.role_request)(table, code, a, b, c))
+}
+
+/// A label request; its answer and spent as one number.
+fn label_ask([code, a, b, c]: [u64; 4]) -> Ask {
+    Box::new(move |guard, table| {
+        let mut spent = 0;
+        100 * (guard.label_request)(table, code, a, b, c, &mut spent) + spent
+    })
+}
+
+/// The first request of a code that gets this answer and changes the table or not.
+fn find(table: &[u64], code: u64, answer: u64, changes: bool, ask: fn([u64; 4]) -> Ask) -> [u64; 4] {
+    let all = (0..64 * 64 * 64).map(|number| [code, number % 64, number / 64 % 64, number / 64 / 64]);
+    let fits = |request: &[u64; 4]| {
+        let mut after = table.to_vec();
+        ask(*request)(&PLAIN, &mut after) == answer && (after != table) == changes
+    };
+    all.into_iter().find(fits).expect("the table has such a request")
+}
+
+/// A role request on the plant's table.
+fn role(name: &'static str, code: u64, answer: u64) -> Call {
+    let table = tables::plant();
+    let request = find(&table, code, answer, answer == 1, role_ask);
+    Call::new(name, &table, role_ask(request))
+}
+
+/// A label request on the label image; the answer with spent.
+fn label(name: &'static str, code: u64, answer: u64, spent: u64) -> Call {
+    let table = tables::labels();
+    let request = find(&table, code, 100 * answer + spent, answer == 1, label_ask);
+    Call::new(name, &table, label_ask(request))
+}
+
+/// The soundness test, by a request that is refused straight after it.
+fn sound(name: &'static str, table: &[u64]) -> Call {
+    Call::new(name, table, role_ask([0, 0, 0, 0]))
+}
+
+/// Every row of the table.
+pub fn rows() -> Vec<Call> {
+    let permissions: Ask = Box::new(|guard, table| {
+        let mut masks = [0; 8];
+        (guard.effective_permissions)(table, 3, &mut masks)
+    });
+    let chain = tables::chain();
+    let set_up: Ask = Box::new(move |guard, table| (guard.role_setup)(table, &chain, &[u64::MAX; 8]));
+    let same = tables::plant();
+    let likeness: Ask = Box::new(move |guard, table| (guard.alike)(table, &same));
+    vec![
+        sound("sound: empty table", &tables::empty()),
+        sound("sound: label image, 16 sessions", &tables::labels()),
+        sound("sound: full role table", &tables::full()),
+        role("role open, yes", 1, 1),
+        role("role open, no", 1, 0),
+        role("role close", 2, 1),
+        role("role activate", 5, 1),
+        role("role drop", 6, 1),
+        role("role deassign", 8, 1),
+        role("role revoke", 10, 1),
+        label("label open", 1, 1, 1),
+        label("label start, yes", 3, 1, 3),
+        label("label start, no", 3, 0, 3),
+        label("label reclear", 5, 1, 2),
+        Call::new("effective permissions", &tables::plant(), permissions),
+        Call::new("role set-up, chain of 64", &tables::empty(), set_up),
+        Call::new("likeness", &tables::plant(), likeness),
+    ]
+}

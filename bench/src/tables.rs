@@ -1,0 +1,83 @@
+//! The tables that calls are measured on.
+
+use compare::{Guard, PLAIN};
+
+const GUARD: Guard = PLAIN;
+
+/// A request that must be answered yes.
+fn role(table: &mut [u64], code: u64, a: u64, b: u64, c: u64) {
+    assert_eq!((GUARD.role_request)(table, code, a, b, c), 1);
+}
+
+fn set_up(juniors: &[u64], permissions: &[u64]) -> Vec<u64> {
+    let mut table = vec![0; 968];
+    assert_eq!((GUARD.role_setup)(&mut table, juniors, permissions), 1);
+    table
+}
+
+/// No roles above others, no permissions, nothing in use.
+pub fn empty() -> Vec<u64> {
+    set_up(&[0; 64], &[0; 8])
+}
+
+/// Each role directly above the one before.
+pub fn chain() -> Vec<u64> {
+    (0..64u32).map(|role| 1u64.checked_shl(role).map_or(0, |bit| bit >> 1)).collect()
+}
+
+/// A chain of 64 roles, every role assigned, granted and active everywhere, and everything open in every session.
+pub fn full() -> Vec<u64> {
+    let mut table = set_up(&chain(), &[u64::MAX; 8]);
+    table[72..648].fill(u64::MAX);
+    for (session, owner) in table[648..680].iter_mut().enumerate() {
+        *owner = session as u64 + 1;
+    }
+    table[680..968].fill(u64::MAX);
+    table
+}
+
+/// A tree of 64 roles, two roles for each user and each pair, and 16 sessions that hold half of what they may.
+pub fn plant() -> Vec<u64> {
+    let below = |role: u64| [2 * role + 1, 2 * role + 2].into_iter().filter(|junior| *junior < 64);
+    let juniors: Vec<u64> = (0..64).map(|role| below(role).fold(0, |all, junior| all | 1 << junior)).collect();
+    let mut table = set_up(&juniors, &[u64::MAX, u64::MAX, u64::MAX, u64::MAX, 0, 0, 0, 0]);
+    for object in 0..64 {
+        for mode in 0..4 {
+            role(&mut table, 9, object, mode, object);
+            role(&mut table, 9, (object + 1) % 64, mode, object);
+        }
+    }
+    for user in 0..64 {
+        role(&mut table, 7, user, user % 16, 0);
+        role(&mut table, 7, user, user * 7 % 64, 0);
+    }
+    for session in 0..16 {
+        role(&mut table, 3, session, session, 0);
+        role(&mut table, 5, session, session % 16, 0);
+        role(&mut table, 5, session, session * 7 % 64, 0);
+        for object in (0..64).step_by(2) {
+            for mode in 0..4 {
+                (GUARD.role_request)(&mut table, 1, session, object, mode);
+            }
+        }
+    }
+    table
+}
+
+/// The image of a label set-up with 16 sessions at different levels that hold all they may of half of the objects.
+pub fn labels() -> Vec<u64> {
+    let clearances: Vec<u8> = (0..64).map(|user| user % 32).collect();
+    let labels: Vec<u8> = (0..64).map(|object| object * 5 % 32).collect();
+    let mut table = vec![0; 968];
+    assert_eq!((GUARD.label_setup)(&mut table, &clearances, &labels), 1);
+    let mut spent = 0;
+    for session in 0..16 {
+        assert_eq!((GUARD.label_request)(&mut table, 3, session, 2 * session, 2 * session, &mut spent), 1);
+        for object in (0..64).step_by(2) {
+            for mode in 0..2 {
+                (GUARD.label_request)(&mut table, 1, session, object, mode, &mut spent);
+            }
+        }
+    }
+    table
+}

@@ -1,0 +1,531 @@
+// Runs the bench cases of the scope and the vectors of the sources through the compiled guard, and writes a row for each: its
+// number, its answer, and what it spent. Rows from 101: A to H and J; from 201: vector A of source 000; from 301: the scope's
+// label listing, and label 32; from 401: labels that are easily confused; from 501: dominance; from 601: wrong lengths and values.
+ghost use mathlib.Core.Path.{_≡_};
+ghost use Prim.Native.Nat.{_≤_};
+ghost use lib.ListN.{length};
+use libc::STDOUT_FILENO;
+use machine::Label;
+
+// Role requests, a code and three arguments each: cases A to H, and the sessions of J.
+const BENCH: [u64; 84] = [
+    9,
+    1,
+    0,
+    9,
+    9,
+    1,
+    1,
+    9,
+    3,
+    0,
+    2,
+    0,
+    3,
+    0,
+    2,
+    0,
+    7,
+    2,
+    3,
+    0,
+    5,
+    0,
+    5,
+    0,
+    5,
+    0,
+    1,
+    0,
+    5,
+    0,
+    3,
+    0,
+    1,
+    0,
+    9,
+    0,
+    6,
+    0,
+    1,
+    0,
+    6,
+    0,
+    3,
+    0,
+    8,
+    2,
+    3,
+    0,
+    7,
+    2,
+    5,
+    0,
+    8,
+    2,
+    3,
+    0,
+    10,
+    1,
+    0,
+    9,
+    9,
+    3,
+    0,
+    9,
+    10,
+    1,
+    0,
+    9,
+    2,
+    5,
+    9,
+    0,
+    1,
+    5,
+    9,
+    0,
+    3,
+    31,
+    2,
+    0,
+    3,
+    32,
+    2,
+    0,
+];
+
+// The requests of source 000, sections 2 and 3, and what follows from its definitions.
+const SOURCE: [u64; 184] = [
+    7,
+    1,
+    1,
+    0,
+    7,
+    2,
+    2,
+    0,
+    7,
+    3,
+    3,
+    0,
+    9,
+    1,
+    0,
+    1,
+    9,
+    2,
+    0,
+    2,
+    9,
+    3,
+    1,
+    2,
+    9,
+    4,
+    1,
+    1,
+    3,
+    1,
+    1,
+    0,
+    3,
+    2,
+    1,
+    0,
+    3,
+    3,
+    2,
+    0,
+    3,
+    4,
+    3,
+    0,
+    5,
+    1,
+    1,
+    0,
+    5,
+    2,
+    1,
+    0,
+    5,
+    4,
+    4,
+    0,
+    1,
+    1,
+    1,
+    0,
+    1,
+    1,
+    2,
+    0,
+    1,
+    1,
+    1,
+    1,
+    1,
+    3,
+    2,
+    0,
+    1,
+    4,
+    1,
+    1,
+    1,
+    4,
+    2,
+    1,
+    5,
+    3,
+    1,
+    0,
+    6,
+    3,
+    1,
+    0,
+    5,
+    3,
+    2,
+    0,
+    1,
+    3,
+    2,
+    0,
+    5,
+    4,
+    3,
+    0,
+    1,
+    4,
+    2,
+    1,
+    6,
+    4,
+    4,
+    0,
+    6,
+    4,
+    3,
+    0,
+    10,
+    2,
+    0,
+    2,
+    9,
+    1,
+    0,
+    2,
+    10,
+    2,
+    0,
+    2,
+    6,
+    1,
+    1,
+    0,
+    8,
+    1,
+    1,
+    0,
+    7,
+    1,
+    2,
+    0,
+    8,
+    1,
+    1,
+    0,
+    2,
+    1,
+    1,
+    0,
+    6,
+    1,
+    1,
+    0,
+    2,
+    1,
+    2,
+    0,
+    6,
+    1,
+    1,
+    0,
+    8,
+    1,
+    1,
+    0,
+    6,
+    2,
+    1,
+    0,
+    8,
+    1,
+    1,
+    0,
+    6,
+    9,
+    1,
+    0,
+    1,
+    9,
+    1,
+    0,
+    2,
+    9,
+    1,
+    0,
+    9,
+    1,
+    2,
+    1,
+];
+
+// Label requests: lines 6 to 13 of the listing, and label 32.
+const LISTING: [u64; 40] = [
+    3,
+    2,
+    4,
+    17,
+    1,
+    2,
+    7,
+    0,
+    1,
+    2,
+    7,
+    1,
+    1,
+    2,
+    8,
+    1,
+    3,
+    3,
+    4,
+    18,
+    5,
+    4,
+    9,
+    0,
+    4,
+    2,
+    0,
+    0,
+    5,
+    4,
+    9,
+    0,
+    5,
+    4,
+    32,
+    0,
+    3,
+    0,
+    4,
+    32,
+];
+
+// A session at level 9 beside labels 9 and 10.
+const CONFUSED: [u64; 16] = [3, 0, 0, 9, 1, 0, 1, 0, 1, 0, 2, 1, 1, 0, 1, 1];
+
+// Writes a row; whether it was written.
+fn show(number: u64, answer: u64, spent: u64) -> bool {
+    let mut out = [0u8; 63];
+    let k = output::put_row(&mut out, 0, number, answer, spent);
+    io::write_all(STDOUT_FILENO, &out[..k])
+}
+
+// Role requests in sequence.
+fn play_roles(table: &mut [u64], words: &[u64], first: u64) -> bool
+    requires { ⌜ (first ≤ 1000) × (length (now words) ≤ 1000) ⌝ }
+{
+    for i in 0..words.len() / 4 {
+        let at = 4 * i;
+        let answer = roles::request(
+            table,
+            words[at],
+            words[at + 1],
+            words[at + 2],
+            words[at + 3],
+        );
+        if !show(first + i as u64, roles::number(answer), 1) {
+            return false;
+        }
+    }
+    true
+}
+
+// Label requests in sequence.
+fn play_labels(table: &mut [u64], words: &[u64], first: u64) -> bool
+    requires { ⌜ (first ≤ 1000) × (length (now words) ≤ 1000) ⌝ }
+{
+    for i in 0..words.len() / 4 {
+        let at = 4 * i;
+        let r = labels::request(
+            table,
+            words[at],
+            words[at + 1],
+            words[at + 2],
+            words[at + 3],
+        );
+        let answer = r.answer;
+        if !show(first + i as u64, roles::number(answer), r.spent) {
+            return false;
+        }
+    }
+    true
+}
+
+// Compares two labels.
+fn compare(number: u64, a: u64, b: u64) -> bool {
+    let high = Label { number: a };
+    if high.dominates(Label { number: b }) {
+        return show(number, 1, 0);
+    }
+    show(number, 0, 0)
+}
+
+// Role 5 above 3, 3 above 1; only (0, 9) a permission.
+fn bench_cases() -> bool {
+    let mut table = [0u64; 968];
+    let mut direct = [0u64; 64];
+    let mut permissions = [0u64; 8];
+    direct[5] = 8;
+    direct[3] = 2;
+    permissions[0] = 512;
+    let answer = setup::role_setup(&mut table, &direct, &permissions);
+    if !show(100, roles::number(answer), 0) {
+        return false;
+    }
+    play_roles(&mut table, &BENCH, 101)
+}
+
+// Role 1 above 2, 3 above 4; (0, 1), (0, 2), (1, 1) and (1, 2) permissions.
+fn source_cases() -> bool {
+    let mut table = [0u64; 968];
+    let mut direct = [0u64; 64];
+    let mut permissions = [0u64; 8];
+    direct[1] = 4;
+    direct[3] = 16;
+    permissions[0] = 6;
+    permissions[1] = 6;
+    let answer = setup::role_setup(&mut table, &direct, &permissions);
+    if !show(200, roles::number(answer), 0) {
+        return false;
+    }
+    play_roles(&mut table, &SOURCE, 201)
+}
+
+// User 4 with clearance 17, objects 7 and 8 with labels 9 and 25.
+fn listing_cases() -> bool {
+    let mut table = [0u64; 968];
+    let mut clearances = [0u8; 64];
+    let mut labels = [0u8; 64];
+    clearances[4] = 17;
+    labels[7] = 9;
+    labels[8] = 25;
+    let answer = image::label_setup(&mut table, &clearances, &labels);
+    if !show(300, roles::number(answer), 0) {
+        return false;
+    }
+    play_labels(&mut table, &LISTING, 301)
+}
+
+// User 0 with clearance 9, objects 1 and 2 with labels 9 and 10.
+fn confused_cases() -> bool {
+    let mut table = [0u64; 968];
+    let mut clearances = [0u8; 64];
+    let mut labels = [0u8; 64];
+    clearances[0] = 9;
+    labels[1] = 9;
+    labels[2] = 10;
+    let answer = image::label_setup(&mut table, &clearances, &labels);
+    if !show(400, roles::number(answer), 0) {
+        return false;
+    }
+    play_labels(&mut table, &CONFUSED, 401)
+}
+
+// Pairs of labels.
+fn dominance_cases() -> bool {
+    if !compare(501, 9, 10) {
+        return false;
+    }
+    if !compare(502, 10, 9) {
+        return false;
+    }
+    if !compare(503, 10, 1) {
+        return false;
+    }
+    if !compare(504, 1, 10) {
+        return false;
+    }
+    if !compare(505, 9, 1) {
+        return false;
+    }
+    if !compare(506, 17, 18) {
+        return false;
+    }
+    if !compare(507, 18, 17) {
+        return false;
+    }
+    if !compare(508, 31, 0) {
+        return false;
+    }
+    if !compare(509, 0, 31) {
+        return false;
+    }
+    true
+}
+
+// Tables of 967 and 969 words, and label 32 in a set-up.
+fn refused_cases() -> bool {
+    let mut short = [0u64; 967];
+    let mut long = [0u64; 969];
+    let mut table = [0u64; 968];
+    let clearances = [32u8; 64];
+    let labels = [0u8; 64];
+    if !show(
+        601,
+        roles::number(roles::request(&mut short, 4, 0, 0, 0)),
+        0,
+    ) {
+        return false;
+    }
+    if !show(602, roles::number(roles::request(&mut long, 4, 0, 0, 0)), 0) {
+        return false;
+    }
+    if !show(
+        603,
+        roles::number(image::label_setup(&mut table, &clearances, &labels)),
+        0,
+    ) {
+        return false;
+    }
+    show(
+        604,
+        roles::number(image::label_setup(&mut table, &labels, &clearances)),
+        0,
+    )
+}
+
+fn main() {
+    if !bench_cases() {
+        return;
+    }
+    if !source_cases() {
+        return;
+    }
+    if !listing_cases() {
+        return;
+    }
+    if !confused_cases() {
+        return;
+    }
+    if !dominance_cases() {
+        return;
+    }
+    refused_cases();
+}

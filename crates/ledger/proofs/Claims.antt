@@ -1,0 +1,187 @@
+-- The claims of specs/Claims.antt: by what is due for the line. Assumes nothing.
+use Prim.Native.Nat.{ℕ, _<_}
+use mathlib.Core.Path.{_≡_, refl, sym, ap, ap₂, _∙_}
+use mathlib.Core.Bool.{Bool, true, false, not}
+use mathlib.Core.List.{List}
+use native.Mathlib.Omega.{arith}
+use lib.Dec.{eqb, leb}
+use borrow.Author.Tests.{eqb-true, ne-eqb}
+use Rattle.bits.specs.Truth.{_and_, if_then_else_}
+use Rattle.bits.proofs.Truth.{if-false}
+use Rattle.table.specs.Table.{state, encode}
+use Rattle.roles.specs.Request.{Ask, ask, Outcome, refuse, decide, accept}
+use Rattle.roles.specs.Roles.{decode, allowed, changed}
+use Rattle.roles.specs.Guard.{roleStep}
+use Rattle.roles.proofs.Steps.{by-step, decided, step-sound}
+use Rattle.roles.proofs.Claims.{served-same}
+use Rattle.setup.proofs.Claims.{set-up-sound, set-up-refused}
+use Rattle.lines.specs.declared.Line.the-variants.{Read, Refused}
+use Rattle.entries.specs.Words.{numbersOf, dueOf}
+use Rattle.entries.specs.declared.Mode.{Mode}
+use Rattle.entries.specs.declared.Mode.the-variants.{RoleMode, LatticeMode}
+use Rattle.entries.specs.declared.Phase.{Phase}
+use Rattle.entries.specs.declared.Phase.the-variants.{SettingUp, Running}
+use Rattle.entries.specs.declared.Setting.{Setting}
+use Rattle.entries.specs.declared.Setting.the-variants.{Juniors, Permissions, Clearances, Labels}
+use Rattle.entries.specs.declared.Due.{Due}
+use Rattle.entries.specs.declared.Due.the-variants.{Refuse, Choose, Put, SetUp, Request}
+use Rattle.entries.specs.declared.Numbers.{Numbers}
+use Rattle.ledger.specs.Store.{Store, withPhase, withTable, withJuniors, withPermissions, withClearances, withLabels, added, stored}
+use Rattle.ledger.specs.Step.{guarded, unguarded, asked, setUpBy, lifted, put, phaseAfter, ran, performed, step}
+use Rattle.ledger.specs.Claims.{SoundFor, SoundIn, StoreSound, StaysSound, ServedSame, RefusedLeaves}
+use Rattle.ledger.proofs.Places.{Only, due-place}
+use Rattle.ledger.proofs.Spending.{set-up-spends}
+use Rattle.ledger.proofs.Lattice.{label-same, label-sound, label-refused, label-set-up-sound, label-set-up-refused, label-set-up-spends}
+
+-- ---- requests and set-ups of either mode
+
+asked-same : (m : Mode) (t : List ℕ) (q : Ask) → SoundFor m t → asked unguarded m t q ≡ asked guarded m t q
+unfolding SoundFor asked guarded unguarded
+asked-same RoleMode t q s = served-same t q s
+asked-same LatticeMode t q s = label-same t q s
+
+pub asked-sound : (m : Mode) (t : List ℕ) (q : Ask) → SoundFor m t → SoundFor m (asked guarded m t q .state)
+unfolding SoundFor asked guarded
+asked-sound RoleMode t q s = step-sound t q s
+asked-sound LatticeMode t q s = label-sound t q s
+
+role-refused : (t : List ℕ) (q : Ask) → 1 < roleStep t q .answer → (roleStep t q .state ≡ t) × (roleStep t q .spent ≡ 0)
+unfolding refuse decide
+role-refused t q h =
+    by-step t q
+    (λ n k e. (ap (λ (o : Outcome (List ℕ)). o .state) e, ap (λ (o : Outcome (List ℕ)). o .spent) e))
+    (λ p. absurd (small (allowed (state t) (decode q)) (encode (changed (state t) (decode q))) (ap (λ (o : Outcome (List ℕ)). o .answer) (decided t q p))))
+  where
+    small : (b : Bool) (new : List ℕ) → roleStep t q .answer ≡ decide b 1 1 new t .answer → ⊥
+    small true new e = omega arith
+    small false new e = omega arith
+
+asked-refused : (m : Mode) (t : List ℕ) (q : Ask) → SoundFor m t → 1 < asked guarded m t q .answer → (asked guarded m t q .state ≡ t) × (asked guarded m t q .spent ≡ 0)
+unfolding SoundFor asked guarded
+asked-refused RoleMode t q s h = role-refused t q h
+asked-refused LatticeMode t q s h = label-refused t q s h
+
+module _ (d : Store) where
+  abbrev pub set-up-of : Mode → Outcome (List ℕ)
+  set-up-of m = setUpBy m (d .table) (d .juniors) (d .permissions) (d .clearances) (d .labels)
+
+  pub made-sound : (m : Mode) → set-up-of m .answer ≡ 1 → SoundFor m (set-up-of m .state)
+  unfolding SoundFor setUpBy
+  made-sound RoleMode a = set-up-sound (d .table) (d .juniors) (d .permissions) a
+  made-sound LatticeMode a = label-set-up-sound (d .table) (d .clearances) (d .labels) a
+
+  pub made-same : (m : Mode) → (set-up-of m .answer ≡ 1 → ⊥) → set-up-of m .state ≡ d .table
+  unfolding setUpBy
+  made-same RoleMode h = set-up-refused (d .table) (d .juniors) (d .permissions) h
+  made-same LatticeMode h = label-set-up-refused (d .table) (d .clearances) (d .labels) h
+
+  made-spends : (m : Mode) → 0 ≡ set-up-of m .spent
+  unfolding setUpBy
+  made-spends RoleMode = set-up-spends (d .table) (d .juniors) (d .permissions)
+  made-spends LatticeMode = label-set-up-spends (d .table) (d .clearances) (d .labels)
+
+-- ---- the table stays sound
+
+put-sound : (d : Store) (s : Setting) (a b : ℕ) → StoreSound d → StoreSound (put d s a b .state)
+unfolding put lifted
+put-sound d Juniors a b h = h
+put-sound d Permissions a b h = h
+put-sound d Clearances a b h = h
+put-sound d Labels a b h = h
+
+ran-sound : (d : Store) (m : Mode) (o : Outcome (List ℕ)) → (o .answer ≡ 1 → SoundFor m (o .state)) → StoreSound (ran d m o .state)
+unfolding ran lifted phaseAfter SoundIn if_then_else_
+ran-sound d m o f = go (eqb (o .answer) 1) refl
+  where
+    go : (t : Bool) → eqb (o .answer) 1 ≡ t → SoundIn (if_then_else_ t (Running m) (SettingUp m)) (o .state)
+    go true e = f (eqb-true _ _ e)
+    go false e = tt
+
+due-sound : (d : Store) (x : Due) (v : Numbers) → StoreSound d → Only (d .phase) x
+    → StoreSound (performed guarded d x v .state)
+unfolding performed refuse accept lifted SoundIn
+due-sound d (Refuse n) v h f = h
+due-sound d (Choose m) v h f = tt
+due-sound d (Put s) v h f = put-sound d s (v .a) (v .b) h
+due-sound d (SetUp m) v h f = ran-sound d m (set-up-of d m) (made-sound d m)
+due-sound d (Request m code) v h f =
+    rw f (asked-sound m (d .table) (ask code (v .a) (v .b) (v .c)) (rw f at h))
+
+pub stays-sound : StaysSound
+unfolding step refuse
+stays-sound d Refused h = h
+stays-sound d (Read w fs) h = due-sound d (dueOf (d .phase) w (numbersOf fs .count)) (numbersOf fs) h (due-place (d .phase) w (numbersOf fs .count))
+
+-- ---- the same without the soundness test
+
+due-same : (d : Store) (x : Due) (v : Numbers) → StoreSound d → Only (d .phase) x
+    → performed unguarded d x v ≡ performed guarded d x v
+unfolding performed SoundIn
+due-same d (Refuse n) v h f = refl
+due-same d (Choose m) v h f = refl
+due-same d (Put s) v h f = refl
+due-same d (SetUp m) v h f = refl
+due-same d (Request m code) v h f =
+    let s : SoundIn (Running m) (d .table) = rw f at h in
+    ap (lifted (withTable d)) (asked-same m (d .table) (ask code (v .a) (v .b) (v .c)) s)
+
+pub line-same : ServedSame
+unfolding step
+line-same d Refused h = refl
+line-same d (Read w fs) h = due-same d (dueOf (d .phase) w (numbersOf fs .count)) (numbersOf fs) h (due-place (d .phase) w (numbersOf fs .count))
+
+-- ---- a refused line
+
+-- an outcome that is no refusal, or leaves what it was for
+leaves-list : {o : Outcome (List ℕ)} (b : Bool) (l k : List ℕ) → o ≡ (if_then_else_ (not b) (refuse 19 l) (accept k)) → 1 < o .answer → (o .state ≡ l) × (o .spent ≡ 0)
+unfolding if_then_else_ refuse accept
+leaves-list true l k e h = let n = ap (λ (p : Outcome (List ℕ)). p .answer) e in absurd (omega arith)
+leaves-list false l k e h = (ap (λ (p : Outcome (List ℕ)). p .state) e, ap (λ (p : Outcome (List ℕ)). p .spent) e)
+
+added-refused : (l : List ℕ) (last i v : ℕ) → 1 < added l last i v .answer → (added l last i v .state ≡ l) × (added l last i v .spent ≡ 0)
+unfolding added
+added-refused l last i v h = leaves-list (leb i last and leb v 63) l _ refl h
+
+stored-refused : (l : List ℕ) (i v : ℕ) → 1 < stored l i v .answer → (stored l i v .state ≡ l) × (stored l i v .spent ≡ 0)
+unfolding stored
+stored-refused l i v h = leaves-list (leb i 63 and leb v 31) l _ refl h
+
+put-refused : (d : Store) (s : Setting) (a b : ℕ) → 1 < put d s a b .answer → (put d s a b .state ≡ d) × (put d s a b .spent ≡ 0)
+unfolding put lifted
+put-refused d Juniors a b h = let r = added-refused (d .juniors) 63 a b h in (ap (withJuniors d) (r .0), r .1)
+put-refused d Permissions a b h = let r = added-refused (d .permissions) 7 a b h in (ap (withPermissions d) (r .0), r .1)
+put-refused d Clearances a b h = let r = stored-refused (d .clearances) a b h in (ap (withClearances d) (r .0), r .1)
+put-refused d Labels a b h = let r = stored-refused (d .labels) a b h in (ap (withLabels d) (r .0), r .1)
+
+ran-refused : (d : Store) (m : Mode) (o : Outcome (List ℕ)) → d .phase ≡ SettingUp m → o .state ≡ d .table → 0 ≡ o .spent → 1 < o .answer
+    → (ran d m o .state ≡ d) × (ran d m o .spent ≡ 0)
+unfolding ran lifted phaseAfter
+ran-refused d m o p t z h =
+    let q : phaseAfter m (o .answer) ≡ d .phase = if-false _ _ (ne-eqb (o .answer) 1 (λ e. omega arith)) ∙ sym p in
+    (ap₂ (λ (x : List ℕ) (y : Phase). withPhase (withTable d x) y) t q, sym z)
+
+set-up-left : (d : Store) (m : Mode) → d .phase ≡ SettingUp m → 1 < ran d m (set-up-of d m) .answer
+    → (ran d m (set-up-of d m) .state ≡ d) × (ran d m (set-up-of d m) .spent ≡ 0)
+unfolding ran lifted
+set-up-left d m f h = ran-refused d m (set-up-of d m) f (made-same d m (λ e. omega arith)) (made-spends d m) h
+
+request-left : (d : Store) (m : Mode) (q : Ask) → SoundFor m (d .table) → 1 < lifted (withTable d) (asked guarded m (d .table) q) .answer
+    → (lifted (withTable d) (asked guarded m (d .table) q) .state ≡ d) × (lifted (withTable d) (asked guarded m (d .table) q) .spent ≡ 0)
+unfolding lifted
+request-left d m q s h = let r = asked-refused m (d .table) q s h in (ap (withTable d) (r .0), r .1)
+
+due-refused : (d : Store) (x : Due) (v : Numbers) → StoreSound d → Only (d .phase) x → 1 < performed guarded d x v .answer
+    → (performed guarded d x v .state ≡ d) × (performed guarded d x v .spent ≡ 0)
+unfolding performed refuse accept SoundIn
+due-refused d (Refuse n) v s f h = (refl, refl)
+due-refused d (Choose m) v s f h = absurd (omega arith)
+due-refused d (Put l) v s f h = put-refused d l (v .a) (v .b) h
+due-refused d (SetUp m) v s f h = set-up-left d m f h
+due-refused d (Request m code) v s f h = request-left d m (ask code (v .a) (v .b) (v .c)) (rw f at s) h
+
+pub refused-leaves : RefusedLeaves
+unfolding step refuse
+refused-leaves d Refused s h = record { unchanged = refl; no-spending = refl }
+refused-leaves d (Read w fs) s h =
+    let r = due-refused d (dueOf (d .phase) w (numbersOf fs .count)) (numbersOf fs) s (due-place (d .phase) w (numbersOf fs .count)) h in
+    record { unchanged = r .0; no-spending = r .1 }

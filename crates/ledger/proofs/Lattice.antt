@@ -1,0 +1,117 @@
+-- What transcripts know of lattice mode: the laws of the label set-up and of label requests. Assumes nothing.
+use Prim.Native.Nat.{ℕ, _≤_, _<_}
+use mathlib.Core.Path.{_≡_, sym, ap, _∙_}
+use mathlib.Core.Bool.{Bool, true, false}
+use mathlib.Core.List.{List}
+use native.Mathlib.Omega.{arith}
+use lib.Dec.{eqb}
+use lib.ListN.{length}
+use borrow.Author.Tests.{eqb-true}
+use Rattle.bits.specs.Truth.{_and_}
+use Rattle.bits.proofs.Truth.{by-truth, and-left, and-right}
+use Rattle.table.specs.Table.{isTable}
+use Rattle.sound.specs.Answers.{isSound}
+use Rattle.roles.specs.Request.{Ask, Outcome, refuse, decide, accept}
+use Rattle.machine.specs.Machine.{Machine, isCode, inRange, decode, allowed, step}
+use Rattle.machine.proofs.Steps.{step-code, step-argument, step-act}
+use Rattle.image.specs.Image.{image}
+use Rattle.image.specs.SetUp.{begin, areLabels, labelSetUp}
+use Rattle.image.specs.Claims.{Imaged}
+use Rattle.image.proofs.Claims.{sound-image}
+use Rattle.image.proofs.Accepting.{set-up-short, set-up-lists, set-up-values, set-up-accepted}
+use Rattle.image.proofs.Beginning.{passed, accepted, begin-ranged, set-up-sound, set-up-refused}
+use Rattle.labels.specs.Guard.{labelStep, imageStep}
+use Rattle.labels.proofs.Refusing.{is-code}
+use Rattle.labels.proofs.Claims.{kept-sound}
+use Rattle.demand.proofs.Deciding.{pictured, picture-decide, picture-refuse}
+use Rattle.demand.proofs.Simulation.{Good, one-step, one-step-served, next-good}
+
+-- ---- the set-up
+
+module _ (t clearances labels : List ℕ) where
+  pub label-set-up-sound : labelSetUp t clearances labels .answer ≡ 1
+      → (isSound (labelSetUp t clearances labels .state) ≡ true) × Imaged (labelSetUp t clearances labels .state)
+  label-set-up-sound a =
+      let p = passed t clearances labels a in (
+        set-up-sound t clearances labels a,
+        record {
+          machine = begin clearances labels;
+          ranged = begin-ranged clearances labels (p .clearances-known) (p .labels-known);
+          is-image = ap (λ (o : Outcome (List ℕ)). o .state) (accepted t clearances labels p);
+        },
+      )
+
+  pub label-set-up-refused : (labelSetUp t clearances labels .answer ≡ 1 → ⊥) → labelSetUp t clearances labels .state ≡ t
+  label-set-up-refused h = set-up-refused t clearances labels h
+
+  pub label-set-up-spends : 0 ≡ labelSetUp t clearances labels .spent
+  unfolding refuse accept
+  label-set-up-spends =
+      by-truth (isTable t)
+      (λ i. by-truth (eqb (length clearances) 64 and eqb (length labels) 64)
+      (λ l.
+      let c = eqb-true (length clearances) 64 (and-left _ _ l) in
+      let k = eqb-true (length labels) 64 (and-right _ _ l) in
+      by-truth (areLabels clearances and areLabels labels)
+      (λ v. spends (set-up-accepted t clearances labels i c k (and-left _ _ v) (and-right (areLabels clearances) _ v)))
+      (λ v. spends (set-up-values t clearances labels i c k v)))
+      (λ l. spends (set-up-lists t clearances labels i l)))
+      (λ i. spends (set-up-short t clearances labels i))
+    where
+      spends : {o o′ : Outcome (List ℕ)} → o ≡ o′ → o′ .spent ≡ o .spent
+      spends e = sym (ap (λ (p : Outcome (List ℕ)). p .spent) e)
+
+-- ---- requests on the image of a machine state
+
+module _ (t : List ℕ) (q : Ask) (h : (isSound t ≡ true) × Imaged t) where
+  abbrev m : Machine
+  m = h .1 .machine
+
+  good : Good m
+  good = record {
+    ranged = h .1 .ranged;
+    safe = sound-image m (h .1 .ranged) .0 (sym (ap isSound (h .1 .is-image)) ∙ h .0);
+  }
+
+  -- the request comes to what the machine comes to, with the image of its next state
+  machined : labelStep t q ≡ pictured (step m q)
+  machined = ap (λ (l : List ℕ). labelStep l q) (h .1 .is-image) ∙ one-step m good q
+
+  pub label-same : imageStep t q ≡ labelStep t q
+  label-same = ap (λ (l : List ℕ). imageStep l q) (h .1 .is-image) ∙ one-step-served m good q ∙ sym machined
+
+  pub label-sound : (isSound (labelStep t q .state) ≡ true) × Imaged (labelStep t q .state)
+  unfolding pictured
+  label-sound = (
+    kept-sound t q (h .0),
+    record {
+      machine = step m q .state;
+      ranged = next-good m good q .ranged;
+      is-image = ap (λ (o : Outcome (List ℕ)). o .state) machined;
+    },
+  )
+
+  pub label-refused : 1 < labelStep t q .answer → (labelStep t q .state ≡ t) × (labelStep t q .spent ≡ 0)
+  unfolding refuse decide
+  label-refused k =
+      by-truth (isCode q)
+      (λ c. by-truth (inRange q)
+      (λ r. absurd (small (allowed m (decode q)) _ _ _ _ (ap (λ (o : Outcome (List ℕ)). o .answer) (machined ∙ ap pictured (step-act m q c r) ∙ picture-decide (allowed m (decode q)) _ _ _ m))))
+      (λ r. left 16 (machined ∙ ap pictured (step-argument m q c r) ∙ picture-refuse 16 m)))
+      (λ c. left 15 (machined ∙ ap pictured (step-code m q c) ∙ picture-refuse 15 m))
+    where
+      left : (n : ℕ) → labelStep t q ≡ refuse n (image m) → (labelStep t q .state ≡ t) × (labelStep t q .spent ≡ 0)
+      left n e = (ap (λ (o : Outcome (List ℕ)). o .state) e ∙ sym (h .1 .is-image), ap (λ (o : Outcome (List ℕ)). o .spent) e)
+
+      small : (b : Bool) (y n : ℕ) (new old : List ℕ) → labelStep t q .answer ≡ decide b y n new old .answer → ⊥
+      small true y n new old e = omega arith
+      small false y n new old e = omega arith
+
+  -- a request of a code from 1 to 5: refusal 16, or yes or no
+  pub by-label : {A : Type 0} → 1 ≤ q .code → q .code ≤ 5 → (labelStep t q ≡ refuse 16 (image m) → A)
+      → ((b : Bool) (y n : ℕ) (new old : List ℕ) → labelStep t q ≡ decide b y n new old → A) → A
+  by-label l k f g =
+      let c = is-code q l k in
+      by-truth (inRange q)
+      (λ r. g (allowed m (decode q)) _ _ _ _ (machined ∙ ap pictured (step-act m q c r) ∙ picture-decide (allowed m (decode q)) _ _ _ m))
+      (λ r. f (machined ∙ ap pictured (step-argument m q c r) ∙ picture-refuse 16 m))

@@ -1,0 +1,9 @@
+-- The crate's laws, in reading order.
+pub mod Listing
+pub mod Lifting
+pub mod Spending
+pub mod Places
+pub mod Lattice
+pub mod Claims
+pub mod Coding
+pub mod Showing

@@ -1,0 +1,81 @@
+-- What the code need not be told: a role request answered yes or no spends 1, and everything else of roles mode 0. Assumes nothing.
+use Prim.Native.Nat.{ℕ, _<_, _≤_}
+use mathlib.Core.Path.{_≡_, refl, sym, ap, _∙_}
+use mathlib.Core.Bool.{Bool, true, false}
+use mathlib.Core.List.{List}
+use native.Mathlib.Omega.{arith}
+use lib.Dec.{eqb}
+use lib.ListN.{length}
+use borrow.Author.Tests.{eqb-true}
+use Rattle.bits.specs.Truth.{_and_}
+use Rattle.bits.proofs.Truth.{by-truth, and-left, and-right}
+use Rattle.table.specs.Table.{isTable, state}
+use Rattle.roles.specs.Request.{Ask, Outcome, refuse, decide, accept}
+use Rattle.roles.specs.Roles.{isCode, inRange, decode, known}
+use Rattle.roles.specs.Guard.{allowedSound, soundStep}
+use Rattle.roles.proofs.Serving.{served-known, served-unknown}
+use Rattle.roles.proofs.Guarding.{checked-code, checked-argument, sound-step-table, sound-step-short, sound-step-served}
+use Rattle.setup.specs.Closure.{closure, acyclic}
+use Rattle.setup.specs.SetUp.{roleSetUp}
+use Rattle.setup.proofs.SetUp.{set-up-short, set-up-lists, set-up-cycle, set-up-accepted}
+
+-- ---- role requests
+
+-- a refusal, or a yes or no that spends 1
+module _ (t : List ℕ) (q : Ask) where
+  pub by-served : {A : Type 0} → ((n : ℕ) → 1 < n → soundStep t q ≡ refuse n t → A) → ((b : Bool) (new : List ℕ) → soundStep t q ≡ decide b 1 1 new t → A) → A
+  by-served f g =
+      by-truth (isTable t)
+      (λ i.
+      let e = sound-step-table t q i in
+      by-truth (isCode q)
+      (λ c. by-truth (inRange q)
+      (λ r.
+      let d = sound-step-served t q i c r in
+      by-truth (known (state t) (decode q))
+      (λ k. g _ _ (d ∙ served-known allowedSound t (decode q) k))
+      (λ k. f 17 (omega arith) (d ∙ served-unknown allowedSound t (decode q) k)))
+      (λ r. f 16 (omega arith) (e ∙ checked-argument allowedSound t q c r)))
+      (λ c. f 15 (omega arith) (e ∙ checked-code allowedSound t q c)))
+      (λ i. f 12 (omega arith) (sound-step-short t q i))
+
+-- what an outcome that is a refusal, or a yes or no, spends
+refused-spends : {o : Outcome (List ℕ)} (n : ℕ) (t : List ℕ) → 1 < n → o ≡ refuse n t → (o .spent ≡ 0) × (1 < o .answer)
+unfolding refuse
+refused-spends n t h e = rw e (refl, h)
+
+decided-spends : {o : Outcome (List ℕ)} (b : Bool) (new t : List ℕ) → o ≡ decide b 1 1 new t → (o .spent ≡ 1) × (o .answer ≤ 1)
+unfolding decide
+decided-spends true new t e = rw e (refl, omega arith)
+decided-spends false new t e = rw e (refl, omega arith)
+
+pub refused-role : (t : List ℕ) (q : Ask) → 1 < soundStep t q .answer → 0 ≡ soundStep t q .spent
+refused-role t q h =
+    by-served t q
+    (λ n k e. sym (refused-spends n t k e .0))
+    (λ b new e. let d = decided-spends b new t e in absurd (omega (arith, d .1)))
+
+pub answered-role : (t : List ℕ) (q : Ask) → soundStep t q .answer ≤ 1 → 1 ≡ soundStep t q .spent
+answered-role t q h =
+    by-served t q
+    (λ n k e. let d = refused-spends n t k e in absurd (omega (arith, d .1)))
+    (λ b new e. sym (decided-spends b new t e .0))
+
+-- ---- the role set-up
+
+pub set-up-spends : (t juniors permissions : List ℕ) → 0 ≡ roleSetUp t juniors permissions .spent
+unfolding refuse accept
+set-up-spends t juniors permissions =
+    by-truth (isTable t)
+    (λ i. by-truth (eqb (length juniors) 64 and eqb (length permissions) 8)
+    (λ l.
+    let j = eqb-true (length juniors) 64 (and-left _ _ l) in
+    let p = eqb-true (length permissions) 8 (and-right _ _ l) in
+    by-truth (acyclic (closure juniors))
+    (λ a. spends (set-up-accepted t juniors permissions i j p a))
+    (λ a. spends (set-up-cycle t juniors permissions i j p a)))
+    (λ l. spends (set-up-lists t juniors permissions i l)))
+    (λ i. spends (set-up-short t juniors permissions i))
+  where
+    spends : {o o′ : Outcome (List ℕ)} → o ≡ o′ → o′ .spent ≡ o .spent
+    spends e = sym (ap (λ (p : Outcome (List ℕ)). p .spent) e)

@@ -1,0 +1,4 @@
+-- The crate's definitions, in reading order.
+pub mod Store
+pub mod Step
+pub mod Claims

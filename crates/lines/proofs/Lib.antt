@@ -1,0 +1,7 @@
+-- The crate's laws, in reading order.
+pub mod Values
+pub mod Words
+pub mod Resume
+pub mod Short
+pub mod Fresh
+pub mod Claims

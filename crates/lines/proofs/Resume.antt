@@ -1,0 +1,139 @@
+-- The reader's answer at the end of a line is what the line's definition says. Assumes nothing.
+use Prim.Native.Nat.{ℕ, _+_, _-_, _*_, _^_}
+use mathlib.Core.Path.{_≡_, refl, sym, ap, _∙_}
+use mathlib.Core.Bool.{Bool, true, false}
+use mathlib.Core.List.{List, [], _∷_, _++_}
+use mathlib.Core.Option.{Option, some, none}
+use lib.Dec.{eqb, ltb}
+use borrow.Author.Tests.{eqb-true}
+use Rattle.bits.specs.Truth.{_and_, if_then_else_}
+use Rattle.lines.specs.Line.{first, others, spelled, digit, plain, number, behind, push, fields, joined}
+use Rattle.lines.specs.Reader.{letter, wordOf, begun, tabbed, pushed, stepOf, ended, finished, steps}
+use Rattle.lines.specs.declared.Word.{Word}
+use Rattle.lines.specs.declared.Spelled.{Spelled}
+use Rattle.lines.specs.declared.Spelled.the-variants.{As, Nothing}
+use Rattle.lines.specs.declared.Fields.{Fields}
+use Rattle.lines.specs.declared.Fields.the-variants.{Without}
+use Rattle.lines.specs.declared.Line.{Line}
+use Rattle.lines.specs.declared.Line.the-variants.{Refused}
+use Rattle.lines.specs.declared.Reader.{Reader}
+use Rattle.lines.specs.declared.Reader.the-variants.{Letters, Tab, Nought, Digits, Broken}
+use Rattle.lines.proofs.Words.{lettersFrom, letters-spelled}
+use Rattle.bits.proofs.Truth.{clash}
+use Rattle.lines.proofs.Values.{along, digitsFrom, noughtThen, number-along}
+
+-- ---- a line in pieces
+
+-- bytes handed over in two pieces, cut anywhere, lead to the same place as in one
+pub steps-append : (s : Reader) (l m : List ℕ) → steps s (l ++ m) ≡ steps (steps s l) m
+unfolding steps
+steps-append s [] m = refl
+steps-append s (b ∷ l) m = steps-append (stepOf s b) l m
+
+-- ---- what a reader makes of what is left of the piece it stands in, and of the pieces behind that
+
+unfoldable resume : Reader → List ℕ → List (List ℕ) → Line
+resume (Letters x) p ps = joined (lettersFrom x p) (fields ps (some Without))
+resume (Tab w fs) p ps = joined (As w) (fields ps (push (some fs) (number p)))
+resume (Nought w fs) p ps = joined (As w) (fields ps (push (some fs) (noughtThen p)))
+resume (Digits w fs v) p ps = joined (As w) (fields ps (push (some fs) (digitsFrom v p)))
+resume Broken p ps = Refused
+
+pub fields-none : (ps : List (List ℕ)) → fields ps none ≡ none
+unfolding fields push
+fields-none [] = refl
+fields-none (p ∷ ps) = fields-none ps
+
+refused : (w : Word) (ps : List (List ℕ)) → joined (As w) (fields ps none) ≡ Refused
+unfolding joined
+refused w ps = rw (fields-none ps)
+
+-- a tab
+after-word : (o : Spelled) (p : List ℕ) (ps : List (List ℕ)) → joined o (fields (p ∷ ps) (some Without)) ≡ resume (begun o) p ps
+unfolding joined fields resume begun
+after-word (As w) p ps = refl
+after-word Nothing p ps = refl
+
+after-field : (w : Word) (o : Option Fields) (p : List ℕ) (ps : List (List ℕ)) → joined (As w) (fields (p ∷ ps) o) ≡ resume (tabbed w o) p ps
+unfolding fields resume tabbed
+after-field w (some fs) p ps = refl
+after-field w none p ps = refused w (p ∷ ps)
+
+resume-tab : (s : Reader) (p : List ℕ) (ps : List (List ℕ)) → resume s [] (p ∷ ps) ≡ resume (stepOf s 9) p ps
+unfolding resume stepOf along pushed push number plain _and_ if_then_else_
+resume-tab (Letters x) p ps = after-word (wordOf x) p ps
+resume-tab (Tab w fs) p ps = refused w (p ∷ ps)
+resume-tab (Nought w fs) p ps = after-field w (behind fs 0) p ps
+resume-tab (Digits w fs v) p ps = after-field w (behind fs v) p ps
+resume-tab Broken p ps = refl
+
+-- another byte
+letters-byte : (tab good : Bool) (s : Reader) (x : ℕ) (p : List ℕ) (ps : List (List ℕ)) → tab ≡ false
+    → joined (if_then_else_ good (lettersFrom x p) Nothing) (fields ps (some Without)) ≡ resume (if_then_else_ tab s (if_then_else_ good (Letters x) Broken)) p ps
+unfolding resume joined if_then_else_
+letters-byte true good s x p ps h = clash {b = true} refl h
+letters-byte false true s x p ps h = refl
+letters-byte false false s x p ps h = refl
+
+field-byte : (nought good : Bool) (w : Word) (fs : Fields) (v : ℕ) (p : List ℕ) (ps : List (List ℕ))
+    → joined (As w) (fields ps (push (some fs) (if_then_else_ nought (noughtThen p) (if_then_else_ good (digitsFrom v p) none))))
+    ≡ resume (if_then_else_ nought (Nought w fs) (if_then_else_ good (Digits w fs v) Broken)) p ps
+unfolding resume push if_then_else_
+field-byte true good w fs v p ps = refl
+field-byte false true w fs v p ps = refl
+field-byte false false w fs v p ps = refused w ps
+
+digits-byte : (tab good : Bool) (s : Reader) (w : Word) (fs : Fields) (v : ℕ) (p : List ℕ) (ps : List (List ℕ)) → tab ≡ false
+    → joined (As w) (fields ps (push (some fs) (if_then_else_ good (digitsFrom v p) none))) ≡ resume (if_then_else_ tab s (if_then_else_ good (Digits w fs v) Broken)) p ps
+unfolding resume push if_then_else_
+digits-byte true good s w fs v p ps h = clash {b = true} refl h
+digits-byte false true s w fs v p ps h = refl
+digits-byte false false s w fs v p ps h = refused w ps
+
+nought-byte : (tab : Bool) (s : Reader) (w : Word) (p : List ℕ) (ps : List (List ℕ)) → tab ≡ false
+    → joined (As w) (fields ps none) ≡ resume (if_then_else_ tab s Broken) p ps
+unfolding resume if_then_else_
+nought-byte true s w p ps h = clash {b = true} refl h
+nought-byte false s w p ps h = refused w ps
+
+resume-byte : (s : Reader) (b : ℕ) (p : List ℕ) (ps : List (List ℕ)) → eqb b 9 ≡ false → resume s (b ∷ p) ps ≡ resume (stepOf s b) p ps
+unfolding resume stepOf along push if_then_else_
+resume-byte (Letters x) b p ps h = letters-byte (eqb b 9) (letter b and ltb (x * 256 + b) (2 ^ 64)) (begun (wordOf x)) (x * 256 + b) p ps h
+resume-byte (Tab w fs) b p ps h = rw (number-along b p) (field-byte (eqb b 48) (digit b) w fs (b - 48) p ps)
+resume-byte (Nought w fs) b p ps h = nought-byte (eqb b 9) (pushed w fs 0) w p ps h
+resume-byte (Digits w fs v) b p ps h = digits-byte (eqb b 9) (digit b and ltb (v * 10 + (b - 48)) (2 ^ 64)) (pushed w fs v) w fs (v * 10 + (b - 48)) p ps h
+resume-byte Broken b p ps h = refl
+
+-- the newline
+word-ends : (o : Spelled) → ended (begun o) ≡ joined o (some Without)
+unfolding ended begun joined
+word-ends (As w) = refl
+word-ends Nothing = refl
+
+field-ends : (w : Word) (o : Option Fields) → ended (tabbed w o) ≡ joined (As w) o
+unfolding ended tabbed joined
+field-ends w (some fs) = refl
+field-ends w none = refl
+
+resume-end : (s : Reader) → finished s ≡ resume s [] []
+unfolding finished stepOf resume along fields push number plain _and_ pushed tabbed ended if_then_else_
+resume-end (Letters x) = word-ends (wordOf x)
+resume-end (Tab w fs) = field-ends w none
+resume-end (Nought w fs) = field-ends w (behind fs 0)
+resume-end (Digits w fs v) = field-ends w (behind fs v)
+resume-end Broken = refl
+
+finished-steps : (s : Reader) (l : List ℕ) → finished (steps s l) ≡ resume s (first l) (others l)
+unfolding steps first others if_then_else_
+finished-steps s [] = resume-end s
+finished-steps s (b ∷ l) = go (eqb b 9) refl (finished-steps (stepOf s b) l)
+  where
+    go : (t : Bool) → eqb b 9 ≡ t → finished (steps (stepOf s b) l) ≡ resume (stepOf s b) (first l) (others l)
+        → finished (steps (stepOf s b) l) ≡ resume s (if_then_else_ t [] (b ∷ first l)) (if_then_else_ t (first l ∷ others l) (others l))
+    go true e ih = ih ∙ ap (λ (a : ℕ). resume (stepOf s a) (first l) (others l)) (eqb-true b 9 e) ∙ sym (resume-tab s (first l) (others l))
+    go false e ih = ih ∙ sym (resume-byte s b (first l) (others l) e)
+
+-- the line that was read, but for the limit of 128 bytes
+pub finished-joined : (l : List ℕ) → finished (steps (Letters 0) l) ≡ joined (spelled (first l)) (fields (others l) (some Without))
+unfolding resume
+finished-joined l = finished-steps (Letters 0) l ∙ ap (λ (o : Spelled). joined o (fields (others l) (some Without))) (letters-spelled (first l))

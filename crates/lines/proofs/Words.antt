@@ -1,0 +1,122 @@
+-- A word is told by its letters packed in one number. Assumes nothing.
+use Prim.Native.Nat.{ℕ, _+_, _*_, _^_, _≤_}
+use mathlib.Core.Path.{_≡_, refl, sym, ap, ap₂, _∙_}
+use mathlib.Core.Bool.{Bool, true, false}
+use mathlib.Core.List.{List, [], _∷_, reverseAux, reverse, reverse-reverse}
+use native.Mathlib.Omega.{arith}
+use lib.Dec.{eqb, leb, ltb, lit<}
+use borrow.Author.Tests.{eqb-true, eq-eqb, ne-eqb, leb-true}
+use Rattle.bits.specs.Truth.{_and_, if_then_else_}
+use Rattle.lines.specs.Bytes.{every, same}
+use Rattle.lines.specs.Line.{Entry, words, find, spelled}
+use Rattle.lines.specs.Reader.{letter, packed, known, wordOf}
+use Rattle.lines.specs.declared.Spelled.{Spelled}
+use Rattle.lines.specs.declared.Spelled.the-variants.{As, Nothing}
+use Rattle.bits.proofs.Truth.{clash, and-left, and-right, and-intro}
+use Rattle.lines.proofs.Values.{along, total, along-total}
+
+-- ---- equal lists
+
+pub same-true : (p q : List ℕ) → same p q ≡ true → p ≡ q
+unfolding same
+same-true [] [] h = refl
+same-true [] (y ∷ ys) h = clash {b = true} refl (sym h)
+same-true (x ∷ xs) [] h = clash {b = true} refl (sym h)
+same-true (x ∷ xs) (y ∷ ys) h = ap₂ _∷_ (eqb-true x y (and-left _ _ h)) (same-true xs ys (and-right (eqb x y) _ h))
+
+same-refl : (p : List ℕ) → same p p ≡ true
+unfolding same
+same-refl [] = refl
+same-refl (x ∷ xs) = and-intro (eq-eqb x x refl) (same-refl xs)
+
+-- ---- letters are read off the number that they are packed in
+
+-- the last letter first
+low : List ℕ → ℕ
+low [] = 0
+low (b ∷ r) = low r * 256 + b
+
+packed-low : (p r : List ℕ) → packed (low r) p ≡ low (reverseAux p r)
+unfolding low
+packed-low [] r = refl
+packed-low (b ∷ p) r = packed-low p (b ∷ r)
+
+every-reverse : (p r : List ℕ) → every letter p ≡ true → every letter r ≡ true → every letter (reverseAux p r) ≡ true
+unfolding every
+every-reverse [] r h k = k
+every-reverse (b ∷ p) r h k = every-reverse p (b ∷ r) (and-right (letter b) _ h) (and-intro (and-left _ _ h) k)
+
+letter-low : (b : ℕ) → letter b ≡ true → 97 ≤ b
+letter-low b h = leb-true 97 b (and-left _ _ h)
+
+letter-high : (b : ℕ) → letter b ≡ true → b ≤ 122
+letter-high b h = leb-true b 122 (and-right (leb 97 b) _ h)
+
+low-injective : (r s : List ℕ) → every letter r ≡ true → every letter s ≡ true → low r ≡ low s → r ≡ s
+unfolding low every
+low-injective [] [] h k e = refl
+low-injective [] (b ∷ s) h k e =
+    let f = letter-low b (and-left _ _ k) in
+    absurd (omega arith)
+low-injective (a ∷ r) [] h k e =
+    let f = letter-low a (and-left _ _ h) in
+    absurd (omega arith)
+low-injective (a ∷ r) (b ∷ s) h k e =
+    let f = letter-high a (and-left _ _ h) in
+    let g = letter-high b (and-left _ _ k) in
+    ap₂ _∷_ (omega arith) (low-injective r s (and-right (letter a) _ h) (and-right (letter b) _ k) (omega arith))
+
+packed-injective : (p q : List ℕ) → every letter p ≡ true → every letter q ≡ true → packed 0 p ≡ packed 0 q → p ≡ q
+unfolding low every
+packed-injective p q h k e =
+    let r : reverse p ≡ reverse q =
+    low-injective (reverse p) (reverse q) (every-reverse p [] h refl) (every-reverse q [] k refl)
+    (sym (packed-low p []) ∙ e ∙ packed-low q []) in
+    sym (reverse-reverse p) ∙ ap reverse r ∙ reverse-reverse q
+
+-- ---- words
+
+-- letters that fit in one number
+abbrev fit : List ℕ → Bool
+fit p = every letter p and ltb (packed 0 p) (2 ^ 64)
+
+all-fit : List Entry → Bool
+all-fit [] = true
+all-fit (e ∷ es) = fit (e .letters) and all-fit es
+
+packed-find : (es : List Entry) (p : List ℕ) → all-fit es ≡ true → if_then_else_ (fit p) (known es (packed 0 p)) Nothing ≡ find es p
+unfolding find all-fit if_then_else_
+packed-find [] p h = go (fit p)
+  where
+    go : (t : Bool) → if_then_else_ t Nothing Nothing ≡ Nothing
+    go true = refl
+    go false = refl
+packed-find (e ∷ es) p h = go (same p (e .letters)) (fit p) refl refl (packed-find es p (and-right (fit (e .letters)) _ h))
+  where
+    here : fit (e .letters) ≡ true
+    here = and-left _ _ h
+
+    go : (s t : Bool) → same p (e .letters) ≡ s → fit p ≡ t → if_then_else_ (fit p) (known es (packed 0 p)) Nothing ≡ find es p
+        → if_then_else_ t (if_then_else_ (eqb (packed 0 p) (packed 0 (e .letters))) (As (e .word)) (known es (packed 0 p))) Nothing ≡ if_then_else_ s (As (e .word)) (find es p)
+    go true true a b ih = rw (eq-eqb (packed 0 p) (packed 0 (e .letters)) (ap (packed 0) (same-true p (e .letters) a)))
+    go true false a b ih = clash (rw (same-true p (e .letters) a) here) b
+    go false true a b ih =
+        let differ : packed 0 p ≡ packed 0 (e .letters) → ⊥ = λ q.
+        clash (rw (packed-injective p (e .letters) (and-left _ _ b) (and-left _ _ here) q) (same-refl (e .letters))) a in
+        rw (ne-eqb (packed 0 p) (packed 0 (e .letters)) differ) (rw b at ih)
+    go false false a b ih = rw b at ih
+
+packed-total : (x : ℕ) (l : List ℕ) → total 256 (λ b. b) x l ≡ packed x l
+unfolding total
+packed-total x [] = refl
+packed-total x (b ∷ l) = packed-total (x * 256 + b) l
+
+-- letters a byte at a time
+abbrev pub lettersFrom : ℕ → List ℕ → Spelled
+lettersFrom = along letter 256 (λ b. b) wordOf Nothing
+
+pub letters-spelled : (p : List ℕ) → lettersFrom 0 p ≡ spelled p
+unfolding spelled wordOf all-fit every _and_ if_then_else_
+letters-spelled p =
+    along-total letter 256 (λ b. b) (λ v b. omega arith) wordOf Nothing 0 p (lit< tt)
+    ∙ rw (packed-total 0 p) (packed-find words p refl)

@@ -1,0 +1,114 @@
+-- What a line of the transcript program is: refusal 10 of 01 and its section on the program. A line is its bytes without
+-- the newline. Whether the word belongs to the mode, and takes as many fields, is the transcript's to say.
+use Prim.Native.Nat.{ℕ, _+_, _-_, _*_, _^_}
+use mathlib.Core.Bool.{Bool, false}
+use mathlib.Core.List.{List, [], _∷_}
+use mathlib.Core.Option.{Option, some, none}
+use lib.Dec.{eqb, leb, ltb}
+use lib.ListN.{length}
+use Rattle.bits.specs.Truth.{_and_, if_then_else_}
+use Rattle.lines.specs.Bytes.{every, empty, same}
+use Rattle.lines.specs.declared.Word.{Word}
+use Rattle.lines.specs.declared.Word.the-variants.{Roles, Lattice, Above, Permit, Clear, Label, Run, Open, Close, Start, End, Activate, Drop, Assign, Deassign, Grant, Revoke, Reclear}
+use Rattle.lines.specs.declared.Spelled.{Spelled}
+use Rattle.lines.specs.declared.Spelled.the-variants.{As, Nothing}
+use Rattle.lines.specs.declared.Fields.{Fields}
+use Rattle.lines.specs.declared.Fields.the-variants.{Without, One, Two, Three}
+use Rattle.lines.specs.declared.Line.{Line}
+use Rattle.lines.specs.declared.Line.the-variants.{Read, Refused}
+
+-- the bytes before the first tab
+unfoldable pub first : List ℕ → List ℕ
+first [] = []
+first (b ∷ l) = if eqb b 9 then [] else b ∷ first l
+
+-- the pieces behind the first tab, parted by the other tabs
+unfoldable pub others : List ℕ → List (List ℕ)
+others [] = []
+others (b ∷ l) = if eqb b 9 then first l ∷ others l else others l
+
+-- a word and its letters
+pub record Entry : Type 0 where
+  pub letters : List ℕ
+  pub word : Word
+
+abbrev pub entry : List ℕ → Word → Entry
+entry l w = record { letters = l; word = w }
+
+-- the words of both modes
+abbrev pub words : List Entry
+words =
+    entry (114 ∷ 111 ∷ 108 ∷ 101 ∷ 115 ∷ []) Roles ∷
+    entry (108 ∷ 97 ∷ 116 ∷ 116 ∷ 105 ∷ 99 ∷ 101 ∷ []) Lattice ∷
+    entry (97 ∷ 98 ∷ 111 ∷ 118 ∷ 101 ∷ []) Above ∷
+    entry (112 ∷ 101 ∷ 114 ∷ 109 ∷ 105 ∷ 116 ∷ []) Permit ∷
+    entry (99 ∷ 108 ∷ 101 ∷ 97 ∷ 114 ∷ []) Clear ∷
+    entry (108 ∷ 97 ∷ 98 ∷ 101 ∷ 108 ∷ []) Label ∷
+    entry (114 ∷ 117 ∷ 110 ∷ []) Run ∷
+    entry (111 ∷ 112 ∷ 101 ∷ 110 ∷ []) Open ∷
+    entry (99 ∷ 108 ∷ 111 ∷ 115 ∷ 101 ∷ []) Close ∷
+    entry (115 ∷ 116 ∷ 97 ∷ 114 ∷ 116 ∷ []) Start ∷
+    entry (101 ∷ 110 ∷ 100 ∷ []) End ∷
+    entry (97 ∷ 99 ∷ 116 ∷ 105 ∷ 118 ∷ 97 ∷ 116 ∷ 101 ∷ []) Activate ∷
+    entry (100 ∷ 114 ∷ 111 ∷ 112 ∷ []) Drop ∷
+    entry (97 ∷ 115 ∷ 115 ∷ 105 ∷ 103 ∷ 110 ∷ []) Assign ∷
+    entry (100 ∷ 101 ∷ 97 ∷ 115 ∷ 115 ∷ 105 ∷ 103 ∷ 110 ∷ []) Deassign ∷
+    entry (103 ∷ 114 ∷ 97 ∷ 110 ∷ 116 ∷ []) Grant ∷
+    entry (114 ∷ 101 ∷ 118 ∷ 111 ∷ 107 ∷ 101 ∷ []) Revoke ∷
+    entry (114 ∷ 101 ∷ 99 ∷ 108 ∷ 101 ∷ 97 ∷ 114 ∷ []) Reclear ∷
+    []
+
+-- the word of a list that has these letters
+unfoldable pub find : List Entry → List ℕ → Spelled
+find [] p = Nothing
+find (e ∷ es) p = if same p (e .letters) then As (e .word) else find es p
+
+-- the word that a piece spells
+unfoldable pub spelled : List ℕ → Spelled
+spelled p = find words p
+
+-- 0 to 9
+abbrev pub digit : ℕ → Bool
+digit b = leb 48 b and leb b 57
+
+-- what digits are worth behind others that are worth v
+unfoldable pub worth : ℕ → List ℕ → ℕ
+worth v [] = v
+worth v (b ∷ l) = worth (v * 10 + (b - 48)) l
+
+-- digits: behind a first 0 nothing, behind another first digit only digits
+unfoldable pub plain : List ℕ → Bool
+plain [] = false
+plain (b ∷ l) = digit b and (if eqb b 48 then empty l else every digit l)
+
+-- the number that a piece is: below 2^64
+unfoldable pub number : List ℕ → Option ℕ
+number p = if plain p and ltb (worth 0 p) (2 ^ 64) then some (worth 0 p) else none
+
+-- the fields with one number more: three at most
+unfoldable pub behind : Fields → ℕ → Option Fields
+behind Without n = some (One n)
+behind (One a) n = some (Two a n)
+behind (Two a b) n = some (Three a b n)
+behind (Three a b c) n = none
+
+-- the same with what a piece is: without a number there, no fields
+unfoldable pub push : Option Fields → Option ℕ → Option Fields
+push none n = none
+push (some fs) none = none
+push (some fs) (some n) = behind fs n
+
+-- the fields with those that pieces are, in order
+unfoldable pub fields : List (List ℕ) → Option Fields → Option Fields
+fields [] fs = fs
+fields (p ∷ ps) fs = fields ps (push fs (number p))
+
+-- a line with this word and these fields
+unfoldable pub joined : Spelled → Option Fields → Line
+joined Nothing fs = Refused
+joined (As w) none = Refused
+joined (As w) (some fs) = Read w fs
+
+-- the line that bytes are: at most 128 of them, a word, and a number behind each tab
+unfoldable pub line : List ℕ → Line
+line l = if leb (length l) 128 then joined (spelled (first l)) (fields (others l) (some Without)) else Refused

@@ -1,0 +1,104 @@
+-- The reader, a byte at a time: where it stands after each, and what it makes of the line at its end. Claims says that
+-- this is what Line says of the whole line, however it is cut.
+use Prim.Native.Nat.{ℕ, _+_, _-_, _*_, _^_}
+use mathlib.Core.Bool.{Bool, false}
+use mathlib.Core.List.{List, [], _∷_}
+use mathlib.Core.Option.{Option, some, none}
+use lib.Dec.{eqb, leb, ltb}
+use Rattle.bits.specs.Truth.{_and_, if_then_else_}
+use Rattle.lines.specs.Line.{Entry, words, digit, behind}
+use Rattle.lines.specs.declared.Word.{Word}
+use Rattle.lines.specs.declared.Spelled.{Spelled}
+use Rattle.lines.specs.declared.Spelled.the-variants.{As, Nothing}
+use Rattle.lines.specs.declared.Fields.{Fields}
+use Rattle.lines.specs.declared.Fields.the-variants.{Without}
+use Rattle.lines.specs.declared.Line.{Line}
+use Rattle.lines.specs.declared.Line.the-variants.{Read, Refused}
+use Rattle.lines.specs.declared.Reader.{Reader}
+use Rattle.lines.specs.declared.Reader.the-variants.{Letters, Tab, Nought, Digits, Broken}
+use Rattle.lines.specs.declared.Fed.{Fed}
+use Rattle.lines.specs.declared.Fed.the-variants.{Whole, Used}
+
+-- a to z
+abbrev pub letter : ℕ → Bool
+letter b = leb 97 b and leb b 122
+
+-- letters as one number, a byte each, behind those of x
+abbrev pub packed : ℕ → List ℕ → ℕ
+packed x [] = x
+packed x (b ∷ l) = packed (x * 256 + b) l
+
+-- the word of a list whose letters are packed in x
+abbrev pub known : List Entry → ℕ → Spelled
+known [] x = Nothing
+known (e ∷ es) x = if eqb x (packed 0 (e .letters)) then As (e .word) else known es x
+
+-- the word whose letters are packed in x
+unfoldable pub wordOf : ℕ → Spelled
+wordOf x = known words x
+
+-- behind a word and its tab
+unfoldable pub begun : Spelled → Reader
+begun (As w) = Tab w Without
+begun Nothing = Broken
+
+-- behind fields and their tab
+unfoldable pub tabbed : Word → Option Fields → Reader
+tabbed w (some fs) = Tab w fs
+tabbed w none = Broken
+
+-- behind one field more and its tab
+unfoldable pub pushed : Word → Fields → ℕ → Reader
+pushed w fs n = tabbed w (behind fs n)
+
+-- one byte further on
+unfoldable pub stepOf : Reader → ℕ → Reader
+stepOf (Letters x) b =
+    if eqb b 9 then begun (wordOf x) else
+    if letter b and ltb (x * 256 + b) (2 ^ 64) then Letters (x * 256 + b) else
+    Broken
+stepOf (Tab w fs) b =
+    if eqb b 48 then Nought w fs else
+    if digit b then Digits w fs (b - 48) else
+    Broken
+stepOf (Nought w fs) b = if eqb b 9 then pushed w fs 0 else Broken
+stepOf (Digits w fs v) b =
+    if eqb b 9 then pushed w fs v else
+    if digit b and ltb (v * 10 + (b - 48)) (2 ^ 64) then Digits w fs (v * 10 + (b - 48)) else
+    Broken
+stepOf Broken b = Broken
+
+-- the line that ends where a tab would have stood
+unfoldable pub ended : Reader → Line
+ended (Tab w fs) = Read w fs
+ended (Letters x) = Refused
+ended (Nought w fs) = Refused
+ended (Digits w fs v) = Refused
+ended Broken = Refused
+
+-- what the line is at its newline, which ends a piece as a tab does
+unfoldable pub finished : Reader → Line
+finished s = ended (stepOf s 9)
+
+-- several bytes further on
+unfoldable pub steps : Reader → List ℕ → Reader
+steps s [] = s
+steps s (b ∷ l) = steps (stepOf s b) l
+
+-- bytes from place at of a block: the line is whole at the first newline, or the block is used up
+unfoldable pub fed : Reader → List ℕ → ℕ → Fed
+fed s [] at = Used s
+fed s (b ∷ l) at = if eqb b 10 then Whole s (at + 1) else fed (stepOf s b) l (at + 1)
+
+-- pieces of a line, in order
+unfoldable pub pieced : Reader → List (List ℕ) → Reader
+pieced s [] = s
+pieced s (p ∷ ps) = pieced (steps s p) ps
+
+-- no byte of the line has been read
+unfoldable pub fresh : Reader → Bool
+fresh (Letters x) = eqb x 0
+fresh (Tab w fs) = false
+fresh (Nought w fs) = false
+fresh (Digits w fs v) = false
+fresh Broken = false

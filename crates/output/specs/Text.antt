@@ -1,0 +1,42 @@
+-- The transcript's output as bytes: 01, "prints a header and a line for each: line number from 1, answer, spent".
+use Prim.Native.Nat.{ℕ, zero, suc, _+_, _/_, _%_}
+use mathlib.Core.List.{List, [], _∷_, _++_}
+use mathlib.Core.Path.{_≡_}
+use lib.Dec.{leb}
+use lib.ListN.{length}
+use lib.Seq.{sets}
+use Rattle.bits.specs.Truth.{if_then_else_}
+
+-- the decimal digits of n, the last k at most: one digit, or those of n / 10 and one more
+unfoldable pub text : ℕ → ℕ → List ℕ
+text zero n = []
+text (suc k) n = if leb n 9 then (48 + n) ∷ [] else text k (n / 10) ++ ((48 + n % 10) ∷ [])
+
+-- a number below 2^64 has 20 digits at most
+unfoldable pub decimal : ℕ → List ℕ
+decimal n = text 20 n
+
+-- a number and the byte behind it
+unfoldable pub column : ℕ → ℕ → List ℕ
+column n behind = decimal n ++ (behind ∷ [])
+
+-- number, answer and spent, parted by tabs, with a newline
+unfoldable pub row : ℕ → ℕ → ℕ → List ℕ
+row number answer spent = column number 9 ++ column answer 9 ++ column spent 10
+
+-- the longest row: three numbers of 20 digits, and a byte behind each
+abbrev pub rowRoom : ℕ
+rowRoom = 63
+
+-- `line`, `answer`, `spent`, parted by tabs, with a newline
+unfoldable pub header : List ℕ
+header = 108 ∷ 105 ∷ 110 ∷ 101 ∷ 9 ∷ 97 ∷ 110 ∷ 115 ∷ 119 ∷ 101 ∷ 114 ∷ 9 ∷ 115 ∷ 112 ∷ 101 ∷ 110 ∷ 116 ∷ 10 ∷ []
+
+-- bytes where out has room for a row from a place on, else none
+unfoldable pub fitting : List ℕ → ℕ → List ℕ → List ℕ
+fitting out at bytes = if leb (at + rowRoom) (length out) then bytes else []
+
+-- result is out with bytes stored from a place on, and next is the place behind them
+pub record Wrote (out : List ℕ) (at : ℕ) (bytes : List ℕ) (result : List ℕ) (next : ℕ) : Type 0 where
+  pub result-is : result ≡ sets out at bytes
+  pub next-is : next ≡ at + length bytes

@@ -1,0 +1,34 @@
+-- What the two reading functions answer and write: refusals 12, 13 and 16 in order, then the words asked for.
+use Prim.Native.Nat.{ℕ}
+use mathlib.Core.Bool.{Bool, not}
+use mathlib.Core.List.{List, [], _∷_}
+use lib.Dec.{eqb, ltb}
+use lib.ListN.{length}
+use Rattle.bits.specs.Truth.{_and_, if_then_else_}
+use Rattle.table.specs.Sound.{sound}
+use Rattle.table.specs.Table.{isTable, state}
+use Rattle.table.specs.Answers.{authorisedRoles, effectivePermissions}
+
+-- an answer, and the lent words after the call
+pub record Told : Type 0 where
+  pub answer : ℕ
+  pub words : List ℕ
+
+unfoldable pub told : ℕ → List ℕ → Told
+told n words = record { answer = n; words = words }
+
+-- the words asked for, of a sound table, where the session or user is there and the lent words have their number
+unfoldable pub read : List ℕ → Bool → List ℕ → List ℕ → Told
+read t known out words =
+    if not (isTable t) then told 12 out else
+    if not (sound (state t)) then told 13 out else
+    if not known then told 16 out else
+    told 1 words
+
+-- the effective permissions of session s in eight words, one a mode
+unfoldable pub readPermissions : List ℕ → ℕ → List ℕ → Told
+readPermissions t s out = read t (ltb s 32 and eqb (length out) 8) out (effectivePermissions t s)
+
+-- the authorised roles of user u in one word
+unfoldable pub readRoles : List ℕ → ℕ → List ℕ → Told
+readRoles t u out = read t (ltb u 64 and eqb (length out) 1) out (authorisedRoles t u ∷ [])

@@ -1,0 +1,6 @@
+-- The crate's laws, in reading order.
+pub mod Serving
+pub mod Pieces
+pub mod Whole
+pub mod Guarding
+pub mod Claims

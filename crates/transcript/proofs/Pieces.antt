@@ -1,0 +1,63 @@
+-- Bytes in pieces: what a block comes to is what was served of it, and then what is left. Assumes nothing.
+use Prim.Native.Nat.{ℕ, suc, _+_, _-_}
+use mathlib.Core.Path.{_≡_, refl, sym, ap, _∙_}
+use mathlib.Core.Bool.{Bool, true, false}
+use mathlib.Core.List.{List, [], _∷_, _++_, append-assoc}
+use native.Mathlib.Omega.{arith}
+use lib.Dec.{eqb}
+use lib.ListN.{length, drop}
+use Rattle.bits.specs.Truth.{_and_, if_then_else_}
+use Rattle.lines.specs.Reader.{stepOf}
+use Rattle.ledger.specs.Step.{Guards}
+use Rattle.transcript.specs.Stream.{Standing, reading, replied, reply, after, emitted, Stop, halt, ahead, full, serving}
+
+drop-one : (n b : ℕ) (l : List ℕ) → drop n l ≡ drop (1 + n) (b ∷ l)
+drop-one n b l = let e : suc n ≡ 1 + n = omega arith in ap (λ (k : ℕ). drop k (b ∷ l)) e
+
+module _ (G : Guards) where
+  pub after-append : (p : Standing) (l m : List ℕ) → after G p (l ++ m) ≡ after G (after G p l) m
+  unfolding after
+  after-append p [] m = refl
+  after-append p (b ∷ l) m = after-append _ l m
+
+  pub emitted-append : (p : Standing) (l m : List ℕ) → emitted G p (l ++ m) ≡ emitted G p l ++ emitted G (after G p l) m
+  unfolding after emitted if_then_else_
+  emitted-append p [] m = refl
+  emitted-append p (b ∷ l) m = go (eqb b 10) (emitted-append (replied G p (p .reader)) l m) (emitted-append (reading p (stepOf (p .reader) b)) l m)
+    where
+      go : (t : Bool)
+          → emitted G (replied G p (p .reader)) (l ++ m) ≡ emitted G (replied G p (p .reader)) l ++ emitted G (after G (replied G p (p .reader)) l) m
+          → emitted G (reading p (stepOf (p .reader) b)) (l ++ m) ≡ emitted G (reading p (stepOf (p .reader) b)) l ++ emitted G (after G (reading p (stepOf (p .reader) b)) l) m
+          → if_then_else_ t (reply G p (p .reader) ++ emitted G (replied G p (p .reader)) (l ++ m)) (emitted G (reading p (stepOf (p .reader) b)) (l ++ m))
+          ≡ if_then_else_ t (reply G p (p .reader) ++ emitted G (replied G p (p .reader)) l) (emitted G (reading p (stepOf (p .reader) b)) l)
+          ++ emitted G (after G (if_then_else_ t (replied G p (p .reader)) (reading p (stepOf (p .reader) b))) l) m
+      go true x y = ap (λ (r : List ℕ). reply G p (p .reader) ++ r) x ∙ sym (append-assoc (reply G p (p .reader)) _ _)
+      go false x y = y
+
+  -- where bytes l lead to and what they write, from what was served of them
+  abbrev Splits : Standing → List ℕ → List ℕ → Stop → Type 0
+  Splits stands writes l s = (stands ≡ after G (s .stands) (drop (s .read) l)) × (writes ≡ s .wrote ++ emitted G (s .stands) (drop (s .read) l))
+
+  pub serving-splits : (room : ℕ) (between : Bool) (p : Standing) (l : List ℕ) → Splits (after G p l) (emitted G p l) l (serving G room between p l)
+  unfolding after emitted serving if_then_else_
+  serving-splits room between p [] = (refl, refl)
+  serving-splits room between p (b ∷ l) =
+      go (between and full room (p .number)) (eqb b 10) refl _ _
+      (serving-splits (room - length (reply G p (p .reader))) true (replied G p (p .reader)) l) (serving-splits room false (reading p (stepOf (p .reader) b)) l)
+    where
+      go : (u t : Bool) → eqb b 10 ≡ t → (line byte : Stop)
+          → Splits (after G (replied G p (p .reader)) l) (emitted G (replied G p (p .reader)) l) l line
+          → Splits (after G (reading p (stepOf (p .reader) b)) l) (emitted G (reading p (stepOf (p .reader) b)) l) l byte
+          → Splits (after G (if_then_else_ t (replied G p (p .reader)) (reading p (stepOf (p .reader) b))) l)
+          (if_then_else_ t (reply G p (p .reader) ++ emitted G (replied G p (p .reader)) l) (emitted G (reading p (stepOf (p .reader) b)) l)) (b ∷ l)
+          (if_then_else_ u (halt p) (if_then_else_ t (ahead 1 (reply G p (p .reader)) line) (ahead 1 [] byte)))
+      go true t e line byte x y = rw e (refl, refl)
+      go false true e line byte x y = (
+        x .0 ∙ ap (after G (line .stands)) (drop-one (line .read) b l),
+        ap (λ (w : List ℕ). reply G p (p .reader) ++ w) (x .1 ∙ ap (λ (m : List ℕ). line .wrote ++ emitted G (line .stands) m) (drop-one (line .read) b l))
+            ∙ sym (append-assoc (reply G p (p .reader)) _ _),
+      )
+      go false false e line byte x y = (
+        y .0 ∙ ap (after G (byte .stands)) (drop-one (byte .read) b l),
+        y .1 ∙ ap (λ (m : List ℕ). byte .wrote ++ emitted G (byte .stands) m) (drop-one (byte .read) b l),
+      )

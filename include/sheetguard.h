@@ -1,0 +1,134 @@
+/*
+ * The sheet guard: role tables, and the label walls that they carry.
+ *
+ * Link with libsheetguard.a, which `rt staticlib sheetguard` writes to target/staticlib (x86-64 Linux).
+ *
+ * The guard keeps nothing. The caller lends it a table of SHEETGUARD_WORDS words at each call and stores the table as it
+ * likes. Every function returns, whatever the words and numbers are, and answers with a number:
+ *
+ *     SHEETGUARD_YES, SHEETGUARD_NO, or a refusal, 12 to 20, the first that fits in the order of the numbers.
+ *
+ * A no and a refusal leave all that is lent unchanged, but for *spent, which a refusal sets to 0.
+ *
+ * What a caller owes:
+ *   - a pointer is never NULL, also where its length is 0, and is aligned for its type;
+ *   - it points to as many words or bytes as its length says;
+ *   - what is lent to be written (a pointer without const) does not overlap anything else that is lent in the same call,
+ *     and no other thread uses it during the call.
+ *
+ * Users, roles and objects are 0 to 63, sessions 0 to 31, modes 0 to 7, labels 0 to 31. A set of them is a word, with
+ * bit i (worth 1 << i) set when i is a member. There is no state beside the table, so different tables may be used by
+ * different threads at the same time.
+ */
+#ifndef SHEETGUARD_H
+#define SHEETGUARD_H
+
+#include <stddef.h>
+#include <stdint.h>
+
+#ifdef __cplusplus
+extern "C" {
+#endif
+
+/* The number of words of a table. */
+#define SHEETGUARD_WORDS 968
+
+/* The answers. */
+enum {
+    SHEETGUARD_NO = 0,
+    SHEETGUARD_YES = 1,
+    SHEETGUARD_WRONG_LENGTH = 12,    /* the table has not 968 words */
+    SHEETGUARD_UNSOUND = 13,         /* the table is not sound */
+    SHEETGUARD_NO_IMAGE = 14,        /* a label request on a sound table that no label set-up leads to */
+    SHEETGUARD_BAD_CODE = 15,        /* the code is not one of the requests */
+    SHEETGUARD_BAD_ARGUMENT = 16,    /* an argument is out of range, or an unlisted one is not 0 */
+    SHEETGUARD_NO_PERMISSION = 17,   /* a grant or revoke names a pair that is no permission */
+    SHEETGUARD_BAD_LIST_LENGTH = 18, /* a set-up list has not its length */
+    SHEETGUARD_BAD_VALUE = 19,       /* a label in a set-up list is over 31 */
+    SHEETGUARD_CYCLE = 20            /* direct juniors lead from a role through another back to it */
+};
+
+/* Codes of role requests, with their arguments a, b, c; an argument that is not listed is 0. */
+enum {
+    SHEETGUARD_OPEN = 1,     /* session, object, mode: yes when the pair is effective for the session */
+    SHEETGUARD_CLOSE = 2,    /* session, object, mode: always yes */
+    SHEETGUARD_START = 3,    /* session, user: yes when the session is idle */
+    SHEETGUARD_END = 4,      /* session: yes when it is not idle */
+    SHEETGUARD_ACTIVATE = 5, /* session, role: yes when the role is authorised for the session's user */
+    SHEETGUARD_DROP = 6,     /* session, role: yes when the table without it is sound */
+    SHEETGUARD_ASSIGN = 7,   /* user, role: always yes */
+    SHEETGUARD_DEASSIGN = 8, /* user, role: yes when the table without it is sound */
+    SHEETGUARD_GRANT = 9,    /* role, mode, object: always yes for a permission */
+    SHEETGUARD_REVOKE = 10   /* role, mode, object: yes when the table without it is sound */
+};
+
+/* Codes of label requests. Mode 0 reads, mode 1 writes without reading; there is no other. */
+enum {
+    SHEETGUARD_LABEL_OPEN = 1,   /* session, object, mode: no read up, no write down */
+    SHEETGUARD_LABEL_CLOSE = 2,  /* session, object, mode: always yes */
+    SHEETGUARD_LABEL_START = 3,  /* session, user, level: yes when idle and the clearance dominates the level */
+    SHEETGUARD_LABEL_END = 4,    /* session: yes when it is not idle */
+    SHEETGUARD_LABEL_RECLEAR = 5 /* user, clearance: yes when it dominates the level of every session of the user */
+};
+
+/*
+ * Writes a fresh role table: who is senior to whom, what is a permission, and nothing else. juniors has 64 words, word r
+ * the direct juniors of role r (its own bit is ignored); permissions has 8 words, word x the objects o for which (mode x,
+ * object o) is a permission. Old contents of the table do not matter.
+ * Answers YES, or refusal 12, 18 or 20.
+ */
+uint64_t sheetguard_role_setup(uint64_t *table, size_t words,
+                               const uint64_t *juniors, size_t n_juniors,
+                               const uint64_t *permissions, size_t n_permissions);
+
+/*
+ * A role request. Answers YES and writes the table, or NO, or refusal 12, 13, 15, 16 or 17.
+ */
+uint64_t sheetguard_role_request(uint64_t *table, size_t words,
+                                 uint64_t code, uint64_t a, uint64_t b, uint64_t c);
+
+/*
+ * Whether two tables have the same openings and the same effective permissions of each session. Answers YES or NO, or
+ * refusal 12 or 13 for the first table, then for the second. The two may be the same table.
+ */
+uint64_t sheetguard_alike(const uint64_t *first, size_t n_first,
+                          const uint64_t *second, size_t n_second);
+
+/*
+ * Writes a fresh label table, all sessions idle: 64 clearances, one a user, and 64 labels, one an object, a byte each.
+ * A label is its class (0 to 3) times 8 plus its set of three brands. Old contents of the table do not matter.
+ * Answers YES, or refusal 12, 18 or 19.
+ */
+uint64_t sheetguard_label_setup(uint64_t *table, size_t words,
+                                const uint8_t *clearances, size_t n_clearances,
+                                const uint8_t *labels, size_t n_labels);
+
+/*
+ * A label request. Answers YES and writes the table, or NO, or refusal 12, 13, 14, 15 or 16; *spent becomes the number
+ * of role requests that were made for it, at most 3.
+ */
+uint64_t sheetguard_label_request(uint64_t *table, size_t words,
+                                  uint64_t code, uint64_t a, uint64_t b, uint64_t c,
+                                  uint64_t *spent);
+
+/*
+ * Writes the effective permissions of a session into eight lent words, word x the objects of mode x. n_masks is 8.
+ * Answers YES, or refusal 12, 13, or 16 where there is no such session or n_masks is not 8.
+ */
+uint64_t sheetguard_effective_permissions(const uint64_t *table, size_t words,
+                                          uint64_t session,
+                                          uint64_t *masks, size_t n_masks);
+
+/*
+ * Writes the authorised roles of a user, those assigned and all their juniors, into one lent word. n_roles is 1.
+ * Answers YES, or refusal 12, 13, or 16 where there is no such user or n_roles is not 1.
+ */
+uint64_t sheetguard_authorised_roles(const uint64_t *table, size_t words,
+                                     uint64_t user,
+                                     uint64_t *roles, size_t n_roles);
+
+#ifdef __cplusplus
+}
+#endif
+
+#endif

@@ -1,0 +1,38 @@
+//! A case: steps on one table.
+
+/// What is done to the table, or asked of it.
+#[derive(Clone, Debug, PartialEq, Eq)]
+pub enum Step {
+    RoleSetup {
+        juniors: Vec<u64>,
+        permissions: Vec<u64>,
+    },
+    LabelSetup {
+        clearances: Vec<u8>,
+        labels: Vec<u8>,
+    },
+    /// A role request: code and three arguments.
+    Role([u64; 4]),
+    /// A label request: code and three arguments.
+    Label([u64; 4]),
+    /// The effective permissions of a session.
+    Permissions(u64),
+    /// The authorised roles of a user.
+    Authorised(u64),
+    /// Whether the kept table and the table are alike, in this order and in the other.
+    Alike,
+    /// Writes a word of the table, where it is so long.
+    Put(usize, u64),
+    /// Turns one bit of a word of the table, where it is so long.
+    Flip(usize, u64),
+    /// Cuts the table to so many words, or fills it up with 0.
+    Length(usize),
+    /// Keeps a copy of the table.
+    Keep,
+    /// Puts the kept copy back.
+    Restore,
+}
+
+/// Steps on a table of 968 words that are 0, the kept copy like it.
+#[derive(Clone, Debug, Default, PartialEq, Eq)]
+pub struct Case(pub Vec<Step>);

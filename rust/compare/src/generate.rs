@@ -1,0 +1,381 @@
+//! Random cases. A case works on few users, roles, sessions and objects, so that what it does meets.
+
+use crate::case::{Case, Step};
+use crate::random::Random;
+
+/// The few numbers that most arguments of a case come from.
+struct World {
+    users: Vec<u64>,
+    roles: Vec<u64>,
+    sessions: Vec<u64>,
+    objects: Vec<u64>,
+    modes: Vec<u64>,
+    labels: Vec<u64>,
+}
+
+impl World {
+    fn new(random: &mut Random) -> World {
+        let mut pool = |size: usize, count: u64| (0..size).map(|_| random.below(count)).collect();
+        World {
+            users: pool(3, 64),
+            roles: pool(6, 64),
+            sessions: pool(4, 32),
+            objects: pool(4, 64),
+            modes: pool(2, 8),
+            labels: pool(5, 32),
+        }
+    }
+}
+
+/// The layer that a table is set up for.
+#[derive(Clone, Copy, Debug, PartialEq, Eq)]
+pub enum Layer {
+    Roles,
+    Labels,
+}
+
+impl Layer {
+    /// A set-up that is accepted, and requests that bring the table into use.
+    fn beginning(self, random: &mut Random, world: &World) -> Vec<Step> {
+        let mut steps = match self {
+            Layer::Roles => vec![role_setup(random, world)],
+            Layer::Labels => vec![label_setup(random, world)],
+        };
+        steps.extend(list(random, 30, |random| match self {
+            Layer::Roles => role_request(random, world, &ROLE_GROWTH),
+            Layer::Labels => label_request(random, world, &LABEL_GROWTH),
+        }));
+        steps
+    }
+
+    fn request(self, random: &mut Random, world: &World) -> Step {
+        match self {
+            Layer::Roles => role_request(random, world, &ROLE_WEIGHTS),
+            Layer::Labels => label_request(random, world, &LABEL_WEIGHTS),
+        }
+    }
+}
+
+/// Mostly from the pool, sometimes any number below the count, seldom one out of range.
+fn argument(random: &mut Random, pool: &[u64], count: u64) -> u64 {
+    match random.below(200) {
+        0 => count,
+        1 => count + random.below(200),
+        2 => random.word(),
+        3..=9 => random.below(count),
+        _ => random.one(pool),
+    }
+}
+
+/// 0, but seldom not.
+fn unlisted(random: &mut Random) -> u64 {
+    match random.below(100) {
+        0 => 1,
+        1 => random.word(),
+        _ => 0,
+    }
+}
+
+/// A code by weights, the first that of code 1; seldom one that there is not.
+fn code(random: &mut Random, weights: &[u64]) -> u64 {
+    if random.chance(1) {
+        return random.one(&[0, weights.len() as u64 + 1, u64::MAX]);
+    }
+    let mut left = random.below(weights.iter().sum());
+    let mut code = 1;
+    for weight in weights {
+        if left < *weight {
+            break;
+        }
+        left -= weight;
+        code += 1;
+    }
+    code
+}
+
+/// How often each role request is made on a table in use, and on one that is to come into use.
+const ROLE_WEIGHTS: [u64; 10] = [20, 6, 8, 3, 16, 8, 9, 8, 12, 8];
+const ROLE_GROWTH: [u64; 10] = [4, 0, 4, 0, 6, 0, 4, 0, 6, 0];
+
+/// The same for label requests.
+const LABEL_WEIGHTS: [u64; 5] = [30, 6, 14, 4, 10];
+const LABEL_GROWTH: [u64; 5] = [3, 0, 3, 0, 0];
+
+fn role_request(random: &mut Random, world: &World, weights: &[u64]) -> Step {
+    let code = code(random, weights);
+    let session = argument(random, &world.sessions, 32);
+    let user = argument(random, &world.users, 64);
+    let role = argument(random, &world.roles, 64);
+    let object = argument(random, &world.objects, 64);
+    let mode = argument(random, &world.modes, 8);
+    let other = unlisted(random);
+    Step::Role(match code {
+        1 | 2 => [code, session, object, mode],
+        3 => [code, session, user, other],
+        4 => [code, session, other, unlisted(random)],
+        5 | 6 => [code, session, role, other],
+        7 | 8 => [code, user, role, other],
+        _ => [code, role, mode, object],
+    })
+}
+
+fn label_request(random: &mut Random, world: &World, weights: &[u64]) -> Step {
+    let code = code(random, weights);
+    let session = argument(random, &world.sessions, 32);
+    let user = argument(random, &world.users, 64);
+    let object = argument(random, &world.objects, 64);
+    let mode = argument(random, &[0, 1], 2);
+    let label = argument(random, &world.labels, 32);
+    let other = unlisted(random);
+    Step::Label(match code {
+        1 | 2 => [code, session, object, mode],
+        3 => [code, session, user, label],
+        4 => [code, session, other, unlisted(random)],
+        _ => [code, user, label, other],
+    })
+}
+
+/// A reading of a session's permissions or of a user's roles.
+fn reading(random: &mut Random, world: &World) -> Step {
+    match random.below(2) {
+        0 => Step::Permissions(argument(random, &world.sessions, 32)),
+        _ => Step::Authorised(argument(random, &world.users, 64)),
+    }
+}
+
+/// Direct juniors that lead from no role back to it, for the roles of the list from the first down.
+fn downwards(random: &mut Random, order: &[u64], percent: u64) -> Vec<u64> {
+    let mut juniors = vec![0; 64];
+    for (at, senior) in order.iter().enumerate() {
+        for junior in &order[at..] {
+            if random.chance(percent) {
+                juniors[*senior as usize] |= 1 << junior;
+            }
+        }
+    }
+    juniors
+}
+
+/// All roles in a random order.
+fn shuffled(random: &mut Random) -> Vec<u64> {
+    let mut order: Vec<u64> = (0..64).collect();
+    for at in 1..order.len() {
+        order.swap(at, random.below(at as u64 + 1) as usize);
+    }
+    order
+}
+
+/// Each role once, in the order of the list.
+fn once(list: &[u64]) -> Vec<u64> {
+    let first = |(at, role): (usize, &u64)| (!list[..at].contains(role)).then_some(*role);
+    list.iter().enumerate().filter_map(first).collect()
+}
+
+/// A role set-up that is accepted: the world's roles above each other, or all of them.
+fn role_setup(random: &mut Random, world: &World) -> Step {
+    let juniors = match random.below(24) {
+        0 => {
+            let order = shuffled(random);
+            downwards(random, &order, 4)
+        }
+        1 => chain(&shuffled(random)),
+        _ => downwards(random, &once(&world.roles), 45),
+    };
+    let mut permissions = vec![0; 8];
+    for mode in &world.modes {
+        for object in &world.objects {
+            if random.chance(80) {
+                permissions[*mode as usize] |= 1 << object;
+            }
+        }
+    }
+    if random.chance(10) {
+        permissions.iter_mut().for_each(|objects| *objects |= random.set());
+    }
+    Step::RoleSetup { juniors, permissions }
+}
+
+/// Each role directly above the next.
+fn chain(order: &[u64]) -> Vec<u64> {
+    let mut juniors = vec![0; 64];
+    for pair in order.windows(2) {
+        juniors[pair[0] as usize] = 1 << pair[1];
+    }
+    juniors
+}
+
+fn label_setup(random: &mut Random, world: &World) -> Step {
+    let mut bytes = || (0..64).map(|_| random.below(32) as u8).collect::<Vec<u8>>();
+    let (mut clearances, labels) = (bytes(), bytes());
+    for user in &world.users {
+        clearances[*user as usize] |= random.one(&[0, 7, 24, 31, 31]);
+    }
+    Step::LabelSetup { clearances, labels }
+}
+
+fn list(random: &mut Random, length: u64, mut step: impl FnMut(&mut Random) -> Step) -> Vec<Step> {
+    let length = 1 + random.below(length);
+    (0..length).map(|_| step(random)).collect()
+}
+
+/// A set-up and a list of requests of its layer, with readings between.
+pub fn requests(random: &mut Random, layer: Layer) -> Case {
+    let world = World::new(random);
+    let mut steps = layer.beginning(random, &world);
+    steps.extend(list(random, 100, |random| match random.below(20) {
+        0 => reading(random, &world),
+        _ => layer.request(random, &world),
+    }));
+    Case(steps)
+}
+
+/// A table brought into use, and so many requests of its layer.
+pub fn many_requests(random: &mut Random, layer: Layer, count: usize) -> Case {
+    let world = World::new(random);
+    let mut steps = layer.beginning(random, &world);
+    steps.extend((0..count).map(|_| layer.request(random, &world)));
+    Case(steps)
+}
+
+/// A request, a reading or likeness, of either layer.
+fn any_call(random: &mut Random, world: &World) -> Step {
+    match random.below(10) {
+        0 => Step::Alike,
+        1 => reading(random, world),
+        2..=5 => Layer::Labels.request(random, world),
+        _ => Layer::Roles.request(random, world),
+    }
+}
+
+/// Where each section of the table begins, and its end.
+const SECTIONS: [u64; 8] = [0, 64, 72, 136, 648, 680, 712, 968];
+
+/// A place in a random section.
+fn place(random: &mut Random) -> usize {
+    let section = random.below(7) as usize;
+    (SECTIONS[section] + random.below(SECTIONS[section + 1] - SECTIONS[section])) as usize
+}
+
+/// Between one bit and garbage.
+fn damage(random: &mut Random) -> Step {
+    let place = place(random);
+    match random.below(4) {
+        0 => Step::Put(place, random.one(&[0, 1, 2, 63, 64, 65, 66, 1 << 32, u64::MAX])),
+        1 => Step::Put(place, random.set()),
+        _ => Step::Flip(place, random.below(64)),
+    }
+}
+
+/// Another length of the table, mostly near the right one.
+fn wrong_length(random: &mut Random) -> Step {
+    Step::Length(random.one(&[0, 1, 72, 967, 967, 969, 969, 1032, 5000]))
+}
+
+/// A table that comes into use, and rounds of requests, a copy kept, and what is done to the table then.
+fn in_rounds(random: &mut Random, disturb: impl Fn(&mut Random, &World, Layer) -> Vec<Step>) -> Case {
+    let world = World::new(random);
+    let layer = random.one(&[Layer::Roles, Layer::Labels]);
+    let mut steps = layer.beginning(random, &world);
+    for _ in 0..5 {
+        steps.extend(list(random, 20, |random| layer.request(random, &world)));
+        steps.push(Step::Keep);
+        steps.extend(disturb(random, &world, layer));
+    }
+    Case(steps)
+}
+
+/// A table in use that is damaged, called and restored, several times over. Role requests meet label tables too.
+pub fn damaged(random: &mut Random) -> Case {
+    in_rounds(random, |random, world, _| {
+        let damages = list(random, 3, |random| match random.below(6) {
+            0 => wrong_length(random),
+            1 => any_call(random, world),
+            _ => damage(random),
+        });
+        let calls = list(random, 6, |random| any_call(random, world));
+        [damages, calls, vec![Step::Restore]].concat()
+    })
+}
+
+/// Pairs of tables that differ in a few requests or words.
+pub fn likeness(random: &mut Random) -> Case {
+    in_rounds(random, |random, world, layer| {
+        let changes = list(random, 4, |random| match random.below(8) {
+            0 => damage(random),
+            1 => wrong_length(random),
+            _ => layer.request(random, world),
+        });
+        [changes, vec![Step::Alike, Step::Restore, Step::Alike]].concat()
+    })
+}
+
+/// Every word of a table in use changed in one bit and to garbage, and what is asked of it then; a case a section.
+pub fn damage_everywhere(random: &mut Random, layer: Layer) -> Vec<Case> {
+    let world = World::new(random);
+    let mut start = layer.beginning(random, &world);
+    start.extend((0..60).map(|_| layer.request(random, &world)));
+    start.push(Step::Keep);
+    let mut section = |ends: &[u64]| {
+        let mut steps = start.clone();
+        for at in ends[0]..ends[1] {
+            let at = at as usize;
+            let flips = [Step::Flip(at, random.below(64)), Step::Flip(at, random.below(64))];
+            for damage in flips.into_iter().chain([Step::Put(at, random.set()), Step::Put(at, random.word())]) {
+                steps.extend([damage, any_call(random, &world), Step::Restore]);
+            }
+        }
+        Case(steps)
+    };
+    SECTIONS.windows(2).map(&mut section).collect()
+}
+
+/// Set-ups of both kinds over old contents: cycles, lists of wrong lengths, values out of range.
+pub fn set_ups(random: &mut Random) -> Case {
+    Case(list(random, 12, |random| match random.below(12) {
+        0 => wrong_length(random),
+        1 => Step::Length(968),
+        2 => damage(random),
+        3..=7 => odd_role_setup(random),
+        _ => odd_label_setup(random),
+    }))
+}
+
+fn odd_role_setup(random: &mut Random) -> Step {
+    let order = shuffled(random);
+    let mut juniors = match random.below(4) {
+        0 => chain(&order),
+        1 => (0..64).map(|_| if random.chance(20) { random.set() } else { 0 }).collect(),
+        _ => {
+            let percent = random.one(&[1, 2, 4, 10, 50]);
+            downwards(random, &order, percent)
+        }
+    };
+    if random.chance(40) {
+        let (from, to) = (random.below(64) as usize, random.below(64) as usize);
+        juniors[order[from.max(to)] as usize] |= 1 << order[from.min(to)];
+    }
+    let mut permissions: Vec<u64> = (0..8).map(|_| random.set()).collect();
+    odd_length(random, &mut juniors);
+    odd_length(random, &mut permissions);
+    Step::RoleSetup { juniors, permissions }
+}
+
+fn odd_label_setup(random: &mut Random) -> Step {
+    let mut bytes = || {
+        let mut bytes: Vec<u8> = (0..64).map(|_| random.below(32) as u8).collect();
+        if random.chance(15) {
+            bytes[random.below(64) as usize] = random.one(&[32, 33, 64, 255]);
+        }
+        odd_length(random, &mut bytes);
+        bytes
+    };
+    Step::LabelSetup { clearances: bytes(), labels: bytes() }
+}
+
+/// Seldom another length.
+fn odd_length<T: Clone + Default>(random: &mut Random, list: &mut Vec<T>) {
+    if random.chance(8) {
+        let length = random.one(&[0, list.len() - 1, list.len() + 1, 2 * list.len()]);
+        list.resize(length, T::default());
+    }
+}

@@ -1,0 +1,26 @@
+//! Comparison of guards with the second implementation.
+//!
+//! A [`Case`] is a list of steps: set-ups, requests by code and numbers, damage to the table, likeness, readings. It is
+//! carried out on the second implementation and on every other guard there is, and after each step the answers and
+//! all words are held to be the same. A case that tells two guards apart is made shorter and printed in a form that
+//! `compare replay` reads; where it holds no more than a transcript can say, that form is a transcript.
+
+mod case;
+mod generate;
+mod guard;
+mod random;
+mod reached;
+mod run;
+mod shrink;
+mod text;
+mod transcripts;
+
+pub use case::{Case, Step};
+pub use generate::{damage_everywhere, damaged, likeness, many_requests, requests, set_ups, Layer};
+#[cfg(feature = "proved")]
+pub use guard::PROVED;
+pub use guard::{Guard, GUARDS, PLAIN, REFERENCE};
+pub use random::Random;
+pub use reached::{Reached, EVERY_CALL, EVERY_TRANSCRIPT};
+pub use run::{check, compare};
+pub use transcripts::{check_transcript, difference, random_transcript, readers, Reader};

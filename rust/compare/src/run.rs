@@ -1,0 +1,115 @@
+//! Carrying a case out on several guards at once.
+
+use crate::case::{Case, Step};
+use crate::guard::{Guard, GUARDS, REFERENCE};
+use crate::reached::Reached;
+use crate::shrink::{shrink, simplify};
+
+/// What one guard has made of the steps so far.
+struct Run {
+    table: Vec<u64>,
+    kept: Vec<u64>,
+}
+
+/// What a step answered: the number, spent, and the words that a reading wrote.
+#[derive(Debug, PartialEq, Eq)]
+struct Reply {
+    answers: Vec<u64>,
+    words: Vec<u64>,
+}
+
+impl Reply {
+    fn number(answer: u64) -> Reply {
+        Reply { answers: vec![answer], words: Vec::new() }
+    }
+}
+
+/// Lent words that a reading has to overwrite, or to leave where it is refused.
+const LENT: u64 = 0x5555_aaaa_5555_aaaa;
+
+impl Run {
+    fn new() -> Run {
+        Run { table: vec![0; 968], kept: vec![0; 968] }
+    }
+
+    fn step(&mut self, guard: &Guard, step: &Step) -> Option<Reply> {
+        let table = &mut self.table;
+        Some(match step {
+            Step::RoleSetup { juniors, permissions } => Reply::number((guard.role_setup)(table, juniors, permissions)),
+            Step::LabelSetup { clearances, labels } => Reply::number((guard.label_setup)(table, clearances, labels)),
+            Step::Role([code, a, b, c]) => Reply::number((guard.role_request)(table, *code, *a, *b, *c)),
+            Step::Label([code, a, b, c]) => {
+                let mut spent = LENT;
+                let answer = (guard.label_request)(table, *code, *a, *b, *c, &mut spent);
+                Reply { answers: vec![answer, spent], words: Vec::new() }
+            }
+            Step::Permissions(session) => {
+                let mut words = vec![LENT; 8];
+                Reply { answers: vec![(guard.effective_permissions)(table, *session, &mut words)], words }
+            }
+            Step::Authorised(user) => {
+                let mut words = vec![LENT; 1];
+                Reply { answers: vec![(guard.authorised_roles)(table, *user, &mut words)], words }
+            }
+            Step::Alike => {
+                let (one, other) = ((guard.alike)(&self.kept, table), (guard.alike)(table, &self.kept));
+                Reply { answers: vec![one, other], words: Vec::new() }
+            }
+            Step::Put(..) | Step::Flip(..) | Step::Length(_) | Step::Keep | Step::Restore => {
+                self.handle(step);
+                return None;
+            }
+        })
+    }
+
+    /// The steps that no guard takes part in.
+    fn handle(&mut self, step: &Step) {
+        match step {
+            Step::Put(at, word) => self.table.get_mut(*at).into_iter().for_each(|place| *place = *word),
+            Step::Flip(at, bit) => self.table.get_mut(*at).into_iter().for_each(|place| *place ^= 1 << (bit % 64)),
+            Step::Length(words) => self.table.resize(*words, 0),
+            Step::Keep => self.kept.clone_from(&self.table),
+            Step::Restore => self.table.clone_from(&self.kept),
+            _ => {}
+        }
+    }
+}
+
+/// Carries the case out on the second implementation and the guards; the first difference, in words.
+pub fn compare(case: &Case, guards: &[Guard], reached: &mut Reached) -> Result<(), String> {
+    let mut expected = Run::new();
+    let mut runs: Vec<Run> = guards.iter().map(|_| Run::new()).collect();
+    for (at, step) in case.0.iter().enumerate() {
+        let reply = expected.step(&REFERENCE, step);
+        if let Some(reply) = &reply {
+            reached.step(step, &reply.answers);
+        }
+        for (guard, run) in guards.iter().zip(&mut runs) {
+            let other = run.step(guard, step);
+            if other != reply {
+                return Err(format!("step {}: {:?} by the {}, {:?} expected", at + 1, other, guard.name, reply));
+            }
+            if run.table != expected.table {
+                let places = (0..expected.table.len()).filter(|i| run.table.get(*i) != expected.table.get(*i));
+                let places: Vec<usize> = places.take(8).collect();
+                return Err(format!("step {}: words {places:?} differ in the {}'s table", at + 1, guard.name));
+            }
+        }
+    }
+    Ok(())
+}
+
+/// Compares the case on all guards there are.
+///
+/// # Errors
+/// The difference, and the case made shorter in a form that can be replayed.
+pub fn check(case: &Case, reached: &mut Reached) -> Result<(), String> {
+    if compare(case, GUARDS, reached).is_ok() {
+        return Ok(());
+    }
+    let difference = |steps: &[Step]| compare(&Case(steps.to_vec()), GUARDS, &mut Reached::default()).err();
+    let fails = |steps: &[Step]| difference(steps).is_some();
+    let short = Case(simplify(&shrink(&case.0, fails), fails));
+    let difference = difference(&short.0).unwrap_or_default();
+    Err(format!("{difference}\n---- replay with `compare replay FILE`:\n{short}----"))
+}

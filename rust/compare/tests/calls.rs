@@ -1,0 +1,80 @@
+//! The calls of every guard, held to the second implementation on random cases.
+
+use compare::{
+    check, damage_everywhere, damaged, likeness, requests, set_ups, Case, Guard, Layer, Random, Reached, EVERY_CALL,
+    GUARDS, REFERENCE,
+};
+
+/// Compares each case, and fails with the first that tells two guards apart.
+fn compare_all(cases: impl Iterator<Item = Case>) -> Reached {
+    let mut reached = Reached::default();
+    for case in cases {
+        if let Err(difference) = check(&case, &mut reached) {
+            panic!("{difference}");
+        }
+    }
+    reached
+}
+
+fn some(seed: u64, count: usize, make: fn(&mut Random) -> Case) -> Reached {
+    let mut random = Random::new(seed);
+    compare_all((0..count).map(|_| make(&mut random)))
+}
+
+fn require(reached: &Reached, all: &str) {
+    let missing = reached.missing(all);
+    assert!(missing.is_empty(), "not reached: {missing:?}");
+    println!("{} answers compared", reached.total());
+}
+
+#[test]
+fn every_call_and_every_answer() {
+    let roles = || some(1, 350, |random| requests(random, Layer::Roles));
+    let labels = || some(2, 200, |random| requests(random, Layer::Labels));
+    let others = || [some(3, 400, damaged), some(4, 400, set_ups), some(5, 100, likeness)];
+    let mut reached = Reached::default();
+    std::thread::scope(|scope| {
+        let (roles, labels) = (scope.spawn(roles), scope.spawn(labels));
+        others().iter().for_each(|part| reached.merge(part));
+        for part in [roles, labels] {
+            reached.merge(&part.join().unwrap_or_else(|failure| std::panic::resume_unwind(failure)));
+        }
+    });
+    require(&reached, EVERY_CALL);
+}
+
+#[test]
+fn every_word_of_a_role_table_damaged() {
+    let mut random = Random::new(6);
+    let reached = compare_all(damage_everywhere(&mut random, Layer::Roles).into_iter());
+    require(&reached, "role 1: 13; label 1: 13 0, 14 0");
+}
+
+#[test]
+fn every_word_of_a_label_table_damaged() {
+    let mut random = Random::new(7);
+    let reached = compare_all(damage_everywhere(&mut random, Layer::Labels).into_iter());
+    require(&reached, "role 1: 13; label 1: 13 0, 14 0");
+}
+
+/// What the readings answer and write where they are lent too few words or too many.
+fn readings(guard: &Guard) -> Vec<(u64, Vec<u64>)> {
+    let mut table = [0; 968];
+    (guard.role_setup)(&mut table, &[0; 64], &[0; 8]);
+    let permissions = [0, 1, 7, 9].map(|length| {
+        let mut masks = vec![7; length];
+        ((guard.effective_permissions)(&table, 0, &mut masks), masks)
+    });
+    let roles = [0, 2].map(|length| {
+        let mut roles = vec![7; length];
+        ((guard.authorised_roles)(&table, 0, &mut roles), roles)
+    });
+    permissions.into_iter().chain(roles).collect()
+}
+
+#[test]
+fn readings_into_wrong_lengths() {
+    for guard in GUARDS {
+        assert_eq!(readings(guard), readings(&REFERENCE), "{}", guard.name);
+    }
+}

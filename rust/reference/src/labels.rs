@@ -1,0 +1,214 @@
+//! Labels, the Bell-LaPadula machine, and its image as an RBAC96 state.
+
+use crate::requests::{below, unlisted};
+use crate::state::{seconds, Mode, Object, Session, State, User, OBJECTS, SESSIONS, USERS};
+use crate::turns::{taken, Turn};
+use std::collections::{BTreeMap, BTreeSet};
+
+/// A label: a class 0 to 3 and a set of three brands.
+#[derive(Clone, Copy, Debug, PartialEq, Eq, PartialOrd, Ord)]
+pub struct Label(u64);
+
+/// How many labels there are.
+const LABELS: u64 = 32;
+
+/// The modes of the machine: 0 reads, 1 writes without reading.
+const READ: Mode = 0;
+const WRITE: Mode = 1;
+
+impl Label {
+    /// The label of a number 0 to 31.
+    pub fn of(number: u64) -> Option<Label> {
+        (number < LABELS).then_some(Label(number))
+    }
+
+    fn all() -> impl Iterator<Item = Label> {
+        (0..LABELS).map(Label)
+    }
+
+    fn class(self) -> u64 {
+        self.0 / 8
+    }
+
+    /// Whether each of the three brands is in the label's set.
+    fn brands(self) -> [bool; 3] {
+        let set = self.0 % 8;
+        [set % 2 == 1, set / 2 % 2 == 1, set / 4 == 1]
+    }
+
+    /// The class is at least the other's and the set holds all of the other's brands.
+    pub fn dominates(self, other: Label) -> bool {
+        let (mine, theirs) = (self.brands(), other.brands());
+        self.class() >= other.class() && (0..3).all(|brand| mine[brand] || !theirs[brand])
+    }
+
+    fn read_role(self) -> u64 {
+        self.0
+    }
+
+    fn write_role(self) -> u64 {
+        32 + self.0
+    }
+}
+
+/// A machine state.
+#[derive(Clone, Debug, PartialEq, Eq)]
+pub struct Machine {
+    clearances: BTreeMap<User, Label>,
+    labels: BTreeMap<Object, Label>,
+    /// The user and the level of each session that is not idle.
+    sessions: BTreeMap<Session, (User, Label)>,
+    openings: BTreeSet<(Session, Mode, Object)>,
+}
+
+impl Machine {
+    /// The machine of a set-up: all sessions idle and nothing open.
+    pub fn starting(clearances: BTreeMap<User, Label>, labels: BTreeMap<Object, Label>) -> Machine {
+        Machine { clearances, labels, sessions: BTreeMap::new(), openings: BTreeSet::new() }
+    }
+
+    /// A label request: refusals 15 and 16, then yes or no with the machine's figure.
+    pub fn request(&mut self, code: u64, [a, b, c]: [u64; 3]) -> Result<(bool, u64), u64> {
+        match code {
+            1 => {
+                let (s, o, x) = (below(a, SESSIONS)?, below(b, OBJECTS)?, below(c, 2)?);
+                Ok((self.open(s, o, x), 1))
+            }
+            2 => {
+                let (s, o, x) = (below(a, SESSIONS)?, below(b, OBJECTS)?, below(c, 2)?);
+                self.openings.remove(&(s, x, o));
+                Ok((true, 1))
+            }
+            3 => {
+                let (s, u, y) = (below(a, SESSIONS)?, below(b, USERS)?, below(c, LABELS)?);
+                Ok(self.start(s, u, Label(y)))
+            }
+            4 => {
+                let s = below(a, SESSIONS)?;
+                unlisted(&[b, c])?;
+                Ok((self.end(s), 1))
+            }
+            5 => {
+                let (u, label) = (below(a, USERS)?, below(b, LABELS)?);
+                unlisted(&[c])?;
+                Ok(self.reclear(u, Label(label)))
+            }
+            _ => Err(15),
+        }
+    }
+
+    fn open(&mut self, s: Session, o: Object, x: Mode) -> bool {
+        let Some((_, level)) = self.sessions.get(&s) else {
+            return false;
+        };
+        let label = self.labels[&o];
+        let yes = match x {
+            READ => level.dominates(label),
+            _ => may_write(label, *level),
+        };
+        if yes {
+            self.openings.insert((s, x, o));
+        }
+        yes
+    }
+
+    fn start(&mut self, s: Session, u: User, y: Label) -> (bool, u64) {
+        if self.sessions.contains_key(&s) {
+            return (false, 1);
+        }
+        let yes = self.clearances.get(&u).is_some_and(|clearance| clearance.dominates(y));
+        if yes {
+            self.sessions.insert(s, (u, y));
+        }
+        (yes, 3)
+    }
+
+    fn end(&mut self, s: Session) -> bool {
+        self.openings.retain(|(session, _, _)| *session != s);
+        self.sessions.remove(&s).is_some()
+    }
+
+    fn reclear(&mut self, u: User, c: Label) -> (bool, u64) {
+        if self.clearances.get(&u) == Some(&c) {
+            return self.reclear_same(u);
+        }
+        let mut seats = self.sessions.values().filter(|(user, _)| *user == u);
+        let yes = seats.all(|(_, level)| c.dominates(*level));
+        if yes {
+            self.clearances.insert(u, c);
+        }
+        (yes, if yes { 2 } else { 3 })
+    }
+
+    /// Reclearing to the clearance that a user has; the wrong turn adds the role and removes it.
+    fn reclear_same(&mut self, u: User) -> (bool, u64) {
+        if !taken(Turn::ReclearSame) {
+            return (true, 0);
+        }
+        if self.sessions.values().any(|(user, _)| *user == u) {
+            return (false, 3);
+        }
+        self.clearances.remove(&u);
+        (true, 2)
+    }
+
+    /// The RBAC96 state that stands for the machine, after Osborn, Sandhu and Munawer.
+    pub fn image(&self) -> State {
+        let mut state = State { openings: self.openings.clone(), ..State::default() };
+        for l in Label::all() {
+            for k in Label::all() {
+                if l.dominates(k) {
+                    state.seniority.insert((l.read_role(), k.read_role()));
+                }
+                if may_write(k, l) {
+                    state.seniority.insert((l.write_role(), k.write_role()));
+                }
+            }
+        }
+        for (u, clearance) in &self.clearances {
+            state.assigned.insert((*u, clearance.read_role()));
+        }
+        state.assigned.extend((0..USERS).map(|u| (u, Label(0).write_role())));
+        for (o, label) in &self.labels {
+            state.permissions.extend([(READ, *o), (WRITE, *o)]);
+            state.granted.extend([(READ, *o, label.read_role()), (WRITE, *o, label.write_role())]);
+        }
+        for (s, (u, level)) in &self.sessions {
+            state.users.insert(*s, *u);
+            state.active.extend([(*s, level.read_role()), (*s, level.write_role())]);
+        }
+        state
+    }
+
+    /// The machine whose image the state is.
+    pub fn of_image(state: &State) -> Option<Machine> {
+        let clearance = |u| Some((u, only_label(seconds(&state.assigned, u))?));
+        let label = |o| {
+            let reads = state.granted.range((READ, o, 0)..(READ, o + 1, 0));
+            Some((o, only_label(reads.map(|(_, _, r)| *r))?))
+        };
+        let seat = |(s, u): (&Session, &User)| Some((*s, (*u, only_label(seconds(&state.active, *s))?)));
+        let machine = Machine {
+            clearances: (0..USERS).map(clearance).collect::<Option<_>>()?,
+            labels: (0..OBJECTS).map(label).collect::<Option<_>>()?,
+            sessions: state.users.iter().map(seat).collect::<Option<_>>()?,
+            openings: state.openings.clone(),
+        };
+        (machine.image() == *state).then_some(machine)
+    }
+}
+
+/// Whether a session at a level may write what has the label; the wrong turn lets it write down.
+fn may_write(label: Label, level: Label) -> bool {
+    match taken(Turn::WriteLikeRead) {
+        false => label.dominates(level),
+        true => level.dominates(label),
+    }
+}
+
+/// The label whose reading role is the only one among the roles.
+fn only_label(roles: impl Iterator<Item = u64>) -> Option<Label> {
+    let mut labels = roles.filter_map(Label::of);
+    let label = labels.next()?;
+    labels.next().is_none().then_some(label)
+}

@@ -1,0 +1,65 @@
+//! The two set-ups.
+
+use crate::labels::{Label, Machine};
+use crate::state::{seconds, Mode, Object, Role, State, ROLES};
+use crate::table::members;
+use std::collections::{BTreeMap, BTreeSet};
+
+/// Refusal 18: a lent list has not its length.
+fn has_length<T>(list: &[T], length: usize) -> Result<(), u64> {
+    if list.len() == length {
+        Ok(())
+    } else {
+        Err(18)
+    }
+}
+
+/// The state of a role set-up from 64 words of direct juniors and 8 words of permissions.
+pub fn roles_from_words(juniors: &[u64], permissions: &[u64]) -> Result<State, u64> {
+    has_length(juniors, 64)?;
+    has_length(permissions, 8)?;
+    roles(&relation(juniors), relation(permissions))
+}
+
+/// The pairs of a place in the list and a member of the word there.
+fn relation(words: &[u64]) -> BTreeSet<(u64, u64)> {
+    let row = |(at, word): (u64, &u64)| members(*word).into_iter().map(move |member| (at, member));
+    (0..).zip(words).flat_map(row).collect()
+}
+
+/// The state of a role set-up; refusal 20 when two different roles lead to each other.
+pub fn roles(direct: &BTreeSet<(Role, Role)>, permissions: BTreeSet<(Mode, Object)>) -> Result<State, u64> {
+    let reach = |r| reached(direct, r).into_iter().map(move |q| (r, q));
+    let seniority: BTreeSet<(Role, Role)> = (0..ROLES).flat_map(reach).collect();
+    if seniority.iter().any(|(r, q)| r != q && seniority.contains(&(*q, *r))) {
+        return Err(20);
+    }
+    Ok(State { seniority, permissions, ..State::default() })
+}
+
+/// The roles that direct juniors lead to from a role, and the role itself.
+fn reached(direct: &BTreeSet<(Role, Role)>, from: Role) -> BTreeSet<Role> {
+    let mut seen = BTreeSet::from([from]);
+    let mut waiting = vec![from];
+    while let Some(role) = waiting.pop() {
+        for junior in seconds(direct, role) {
+            if seen.insert(junior) {
+                waiting.push(junior);
+            }
+        }
+    }
+    seen
+}
+
+/// The machine of a label set-up from 64 clearances and 64 object labels.
+pub fn machine_from_bytes(clearances: &[u8], labels: &[u8]) -> Result<Machine, u64> {
+    has_length(clearances, 64)?;
+    has_length(labels, 64)?;
+    Ok(Machine::starting(read_labels(clearances)?, read_labels(labels)?))
+}
+
+/// Refusal 19: a byte is no label.
+fn read_labels(bytes: &[u8]) -> Result<BTreeMap<u64, Label>, u64> {
+    let read = |(at, byte): (u64, &u8)| Ok((at, Label::of(u64::from(*byte)).ok_or(19u64)?));
+    (0..).zip(bytes).map(read).collect()
+}

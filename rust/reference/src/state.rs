@@ -1,0 +1,137 @@
+//! The RBAC96 state: sets, relations, and the definitions of source document 000 on them.
+
+use crate::turns::{taken, Turn};
+use std::collections::{BTreeMap, BTreeSet};
+
+pub type User = u64;
+pub type Role = u64;
+pub type Session = u64;
+pub type Mode = u64;
+pub type Object = u64;
+
+pub const USERS: u64 = 64;
+pub const ROLES: u64 = 64;
+pub const SESSIONS: u64 = 32;
+pub const MODES: u64 = 8;
+pub const OBJECTS: u64 = 64;
+
+/// What a table says.
+#[derive(Clone, Debug, Default, PartialEq, Eq)]
+pub struct State {
+    /// (r, q): role r is senior to role q or is q.
+    pub seniority: BTreeSet<(Role, Role)>,
+    /// The pairs of mode and object that are permissions.
+    pub permissions: BTreeSet<(Mode, Object)>,
+    /// (u, r): user u is assigned role r.
+    pub assigned: BTreeSet<(User, Role)>,
+    /// (x, o, r): role r is granted (x, o).
+    pub granted: BTreeSet<(Mode, Object, Role)>,
+    /// The user of each session that is not idle.
+    pub users: BTreeMap<Session, User>,
+    /// (s, r): role r is active in session s.
+    pub active: BTreeSet<(Session, Role)>,
+    /// (s, x, o): session s holds object o open in mode x.
+    pub openings: BTreeSet<(Session, Mode, Object)>,
+}
+
+impl State {
+    pub fn is_idle(&self, s: Session) -> bool {
+        !self.users.contains_key(&s)
+    }
+
+    /// Role r and all roles that it is senior to.
+    fn juniors(&self, r: Role) -> impl Iterator<Item = Role> + '_ {
+        seconds(&self.seniority, r)
+    }
+
+    /// Role r and all roles that are senior to it.
+    fn seniors(&self, r: Role) -> impl Iterator<Item = Role> + '_ {
+        let above = self.seniority.iter().filter(move |(_, junior)| *junior == r);
+        above.map(|(senior, _)| *senior)
+    }
+
+    /// The roles and all their juniors; a wrong turn gathers upwards.
+    fn gather(&self, roles: impl Iterator<Item = Role>, upwards: Turn) -> BTreeSet<Role> {
+        match taken(upwards) {
+            false => roles.flat_map(|r| self.juniors(r)).collect(),
+            true => roles.flat_map(|r| self.seniors(r)).collect(),
+        }
+    }
+
+    /// The roles assigned to a user, and all their juniors.
+    pub fn authorised(&self, u: User) -> BTreeSet<Role> {
+        self.gather(seconds(&self.assigned, u), Turn::AuthorisedUpwards)
+    }
+
+    /// The authorised roles of the user of a session; an idle session has none.
+    pub fn authorised_for(&self, s: Session) -> BTreeSet<Role> {
+        match self.users.get(&s) {
+            Some(user) => self.authorised(*user),
+            None => BTreeSet::new(),
+        }
+    }
+
+    /// The permissions granted to an active role of a session or to a junior of one.
+    pub fn effective(&self, s: Session) -> BTreeSet<(Mode, Object)> {
+        let roles = self.gather(seconds(&self.active, s), Turn::PermissionsFromSeniors);
+        let granted = self.granted.iter().filter(|(_, _, r)| roles.contains(r));
+        let pairs = granted.map(|(x, o, _)| (*x, *o));
+        pairs.filter(|pair| self.permissions.contains(pair)).collect()
+    }
+
+    /// The openings of a session.
+    fn held(&self, s: Session) -> BTreeSet<(Mode, Object)> {
+        let held = self.openings.range((s, 0, 0)..(s + 1, 0, 0));
+        held.map(|(_, x, o)| (*x, *o)).collect()
+    }
+
+    pub fn is_sound(&self) -> bool {
+        self.is_reflexive()
+            && self.is_transitive()
+            && self.is_antisymmetric()
+            && self.grants_are_permissions()
+            && self.users.values().all(|u| *u < USERS)
+            && (0..SESSIONS).all(|s| self.is_session_sound(s))
+    }
+
+    fn is_reflexive(&self) -> bool {
+        (0..ROLES).all(|r| self.seniority.contains(&(r, r)))
+    }
+
+    fn is_transitive(&self) -> bool {
+        let goes_on = |(r, q): &(Role, Role)| self.juniors(*q).all(|p| self.seniority.contains(&(*r, p)));
+        self.seniority.iter().all(goes_on)
+    }
+
+    fn is_antisymmetric(&self) -> bool {
+        let one_way = |(r, q): &(Role, Role)| r == q || !self.seniority.contains(&(*q, *r));
+        self.seniority.iter().all(one_way)
+    }
+
+    fn grants_are_permissions(&self) -> bool {
+        let is_permission = |(x, o, _): &(Mode, Object, Role)| self.permissions.contains(&(*x, *o));
+        self.granted.iter().all(is_permission)
+    }
+
+    /// An idle session has no roles and no openings; of another the active roles are authorised and the openings
+    /// effective.
+    fn is_session_sound(&self, s: Session) -> bool {
+        let active: BTreeSet<Role> = seconds(&self.active, s).collect();
+        let held = self.held(s);
+        if self.is_idle(s) {
+            return active.is_empty() && held.is_empty();
+        }
+        active.is_subset(&self.authorised_for(s)) && held.is_subset(&self.effective(s))
+    }
+
+    /// The openings are the same, and each session has the same effective permissions.
+    pub fn is_like(&self, other: &State) -> bool {
+        let same_permissions = |s| self.effective(s) == other.effective(s);
+        self.openings == other.openings && (0..SESSIONS).all(same_permissions)
+    }
+}
+
+/// What a relation gives to a first element.
+pub fn seconds(relation: &BTreeSet<(u64, u64)>, first: u64) -> impl Iterator<Item = u64> + '_ {
+    relation.range((first, 0)..(first + 1, 0)).map(|(_, second)| *second)
+}

@@ -1,0 +1,88 @@
+//! The table of 968 words: reading it into sets, and writing sets into it.
+
+use crate::state::{State, MODES, OBJECTS, ROLES, SESSIONS, USERS};
+
+const PERMITTED: u64 = ROLES;
+const ASSIGNED: u64 = PERMITTED + MODES;
+const GRANTED: u64 = ASSIGNED + USERS;
+const OWNER: u64 = GRANTED + MODES * OBJECTS;
+const ACTIVE: u64 = OWNER + SESSIONS;
+const HOLDS: u64 = ACTIVE + SESSIONS;
+const WORDS: u64 = HOLDS + SESSIONS * MODES;
+
+/// Refusal 12: the table has not 968 words.
+pub fn is_table(words: &[u64]) -> Result<(), u64> {
+    if words.len() as u64 == WORDS {
+        Ok(())
+    } else {
+        Err(12)
+    }
+}
+
+/// What the table says, after refusals 12 and 13.
+pub fn read_sound(words: &[u64]) -> Result<State, u64> {
+    is_table(words)?;
+    let state = read(words);
+    if state.is_sound() {
+        Ok(state)
+    } else {
+        Err(13)
+    }
+}
+
+/// The numbers whose bits are set in a word.
+pub fn members(word: u64) -> Vec<u64> {
+    let mut members = Vec::new();
+    let (mut left, mut number) = (word, 0);
+    while left > 0 {
+        if left % 2 == 1 {
+            members.push(number);
+        }
+        left /= 2;
+        number += 1;
+    }
+    members
+}
+
+/// Sets a bit of a word that is not set yet.
+pub fn add(words: &mut [u64], at: u64, member: u64) {
+    words[at as usize] += 2u64.pow(member as u32);
+}
+
+fn read(words: &[u64]) -> State {
+    let mut state = State::default();
+    for (at, word) in (0..).zip(words) {
+        match at {
+            OWNER..ACTIVE if *word > 0 => {
+                state.users.insert(at - OWNER, word - 1);
+            }
+            OWNER..ACTIVE => {}
+            _ => members(*word).into_iter().for_each(|member| put(&mut state, at, member)),
+        }
+    }
+    state
+}
+
+/// Adds to the state what one bit of the table says.
+fn put(state: &mut State, at: u64, member: u64) {
+    match at {
+        0..PERMITTED => state.seniority.insert((at, member)),
+        PERMITTED..ASSIGNED => state.permissions.insert((at - PERMITTED, member)),
+        ASSIGNED..GRANTED => state.assigned.insert((at - ASSIGNED, member)),
+        GRANTED..OWNER => state.granted.insert(((at - GRANTED) / OBJECTS, (at - GRANTED) % OBJECTS, member)),
+        ACTIVE..HOLDS => state.active.insert((at - ACTIVE, member)),
+        _ => state.openings.insert(((at - HOLDS) / MODES, (at - HOLDS) % MODES, member)),
+    };
+}
+
+/// Writes the 968 words that say what the state does.
+pub fn write(state: &State, words: &mut [u64]) {
+    words.fill(0);
+    state.seniority.iter().for_each(|(r, q)| add(words, *r, *q));
+    state.permissions.iter().for_each(|(x, o)| add(words, PERMITTED + x, *o));
+    state.assigned.iter().for_each(|(u, r)| add(words, ASSIGNED + u, *r));
+    state.granted.iter().for_each(|(x, o, r)| add(words, GRANTED + OBJECTS * x + o, *r));
+    state.users.iter().for_each(|(s, u)| words[(OWNER + s) as usize] = u + 1);
+    state.active.iter().for_each(|(s, r)| add(words, ACTIVE + s, *r));
+    state.openings.iter().for_each(|(s, x, o)| add(words, HOLDS + MODES * s + x, *o));
+}

@@ -1,0 +1,310 @@
+//! The proved sheet guard in a Rust program: which session may open which object, to read or to write.
+//!
+//! The guard keeps nothing of its own. The caller lends a table of [`WORDS`] words at each call: a role table, written
+//! by [`set_up_roles`] and asked by [`role_request`], or a label table, written by [`set_up_labels`] and asked by
+//! [`label_request`]. Users, roles and objects are 0 to 63, sessions 0 to 31, modes 0 to 7 and labels 0 to 31; a set of
+//! them is a word with bit i set when i is a member. Any slice and any number may be passed: what does not fit is
+//! refused, and a no or a [`Refusal`] leaves all words unchanged.
+//!
+//! ```
+//! use sheetguard::{label_request, set_up_labels, Answer, LabelRequest, Refusal, WORDS};
+//!
+//! # fn main() -> Result<(), Refusal> {
+//! let (mut clearances, mut labels) = ([0; 64], [0; 64]);
+//! clearances[4] = 17;
+//! labels[7] = 9;
+//! labels[8] = 25;
+//! let mut table = [0; WORDS];
+//! set_up_labels(&mut table, &clearances, &labels)?;
+//!
+//! let start = LabelRequest::Start { session: 2, user: 4, level: 17 };
+//! assert_eq!(label_request(&mut table, start)?.answer, Answer::Yes);
+//! let read = |object| LabelRequest::Open { session: 2, object, mode: 0 };
+//! assert_eq!(label_request(&mut table, read(7))?.answer, Answer::Yes);
+//! assert_eq!(label_request(&mut table, read(8))?.answer, Answer::No);
+//! assert_eq!(label_request(&mut table, read(64)), Err(Refusal::BadArgument));
+//! # Ok(())
+//! # }
+//! ```
+
+#![warn(missing_docs)]
+
+pub mod numbers;
+mod request;
+
+pub use request::{LabelRequest, RoleRequest};
+use std::fmt::{self, Display, Formatter};
+
+/// The number of words of a table.
+pub const WORDS: usize = 968;
+
+/// The answer to a request that is not refused.
+#[derive(Clone, Copy, Debug, PartialEq, Eq)]
+pub enum Answer {
+    /// The request is carried out.
+    Yes,
+    /// The table is as it was.
+    No,
+}
+
+/// An answer to a label request, with the number of role requests made on its behalf.
+#[derive(Clone, Copy, Debug, PartialEq, Eq)]
+pub struct Reply {
+    /// Yes or no.
+    pub answer: Answer,
+    /// At most 3.
+    pub spent: u64,
+}
+
+/// Why a call is refused; nothing that is lent is changed then. Of several reasons the first in this order is given.
+#[derive(Clone, Copy, Debug, PartialEq, Eq)]
+pub enum Refusal {
+    /// 12: the table has not 968 words.
+    WrongLength,
+    /// 13: the table is not sound.
+    Unsound,
+    /// 14: a label request meets a sound table that is the image of no machine state.
+    NoImage,
+    /// 15: there is no request of this code.
+    BadCode,
+    /// 16: an argument is out of range.
+    BadArgument,
+    /// 17: a grant or revoke names a pair that is no permission.
+    NoPermission,
+    /// 18: a set-up list has not its length.
+    BadListLength,
+    /// 19: a set-up value is out of range.
+    BadValue,
+    /// 20: direct juniors lead from a role through another back to it.
+    Cycle,
+    /// A number that this crate does not know.
+    Other(u64),
+}
+
+/// The refusals with their numbers and reasons.
+const REFUSALS: [(u64, Refusal, &str); 9] = [
+    (12, Refusal::WrongLength, "the table has not 968 words"),
+    (13, Refusal::Unsound, "the table is not sound"),
+    (14, Refusal::NoImage, "the table is the image of no machine state"),
+    (15, Refusal::BadCode, "there is no request of this code"),
+    (16, Refusal::BadArgument, "an argument is out of range"),
+    (17, Refusal::NoPermission, "the pair is no permission"),
+    (18, Refusal::BadListLength, "a set-up list has not its length"),
+    (19, Refusal::BadValue, "a set-up value is out of range"),
+    (20, Refusal::Cycle, "direct juniors lead from a role through another back to it"),
+];
+
+impl Refusal {
+    /// The refusal of a number.
+    ///
+    /// ```
+    /// use sheetguard::Refusal;
+    ///
+    /// assert_eq!(Refusal::of(13), Refusal::Unsound);
+    /// assert_eq!(Refusal::of(99), Refusal::Other(99));
+    /// assert_eq!(Refusal::Cycle.number(), 20);
+    /// ```
+    pub fn of(number: u64) -> Refusal {
+        let row = REFUSALS.iter().find(|row| row.0 == number);
+        row.map_or(Refusal::Other(number), |row| row.1)
+    }
+
+    /// The number of the refusal.
+    pub fn number(self) -> u64 {
+        match self {
+            Refusal::Other(number) => number,
+            _ => self.row().map_or(0, |row| row.0),
+        }
+    }
+
+    fn row(self) -> Option<&'static (u64, Refusal, &'static str)> {
+        REFUSALS.iter().find(|row| row.1 == self)
+    }
+}
+
+impl Display for Refusal {
+    fn fmt(&self, out: &mut Formatter) -> fmt::Result {
+        out.write_str(self.row().map_or("a refusal that is not known", |row| row.2))
+    }
+}
+
+impl std::error::Error for Refusal {}
+
+/// The answer of a number, or the refusal.
+fn answer_of(number: u64) -> Result<Answer, Refusal> {
+    match number {
+        1 => Ok(Answer::Yes),
+        0 => Ok(Answer::No),
+        refusal => Err(Refusal::of(refusal)),
+    }
+}
+
+/// Writes a fresh role table: the closure of the direct juniors, the permissions, and nothing else.
+///
+/// Word r of the 64 in `juniors` has the direct juniors of role r; word x of the 8 in `permissions` has the objects o
+/// for which (x, o) is a permission. Old contents of the table do not matter.
+///
+/// # Errors
+/// [`Refusal::WrongLength`], [`Refusal::BadListLength`], [`Refusal::Cycle`].
+///
+/// ```
+/// use sheetguard::{set_up_roles, Refusal, WORDS};
+///
+/// let mut juniors = [0; 64];
+/// juniors[5] = 1 << 3;
+/// let mut table = [0; WORDS];
+/// assert_eq!(set_up_roles(&mut table, &juniors, &[0; 8]), Ok(()));
+/// juniors[3] = 1 << 5;
+/// assert_eq!(set_up_roles(&mut table, &juniors, &[0; 8]), Err(Refusal::Cycle));
+/// assert_eq!(set_up_roles(&mut [], &juniors, &[0; 8]), Err(Refusal::WrongLength));
+/// ```
+pub fn set_up_roles(table: &mut [u64], juniors: &[u64], permissions: &[u64]) -> Result<(), Refusal> {
+    answer_of(numbers::role_setup(table, juniors, permissions)).map(|_| ())
+}
+
+/// Writes a fresh label table, all sessions idle, from 64 clearances and 64 object labels.
+///
+/// A label is its class (0 to 3) times 8 plus its set of three brands. Old contents of the table do not matter.
+///
+/// # Errors
+/// [`Refusal::WrongLength`], [`Refusal::BadListLength`], [`Refusal::BadValue`].
+///
+/// ```
+/// use sheetguard::{set_up_labels, Refusal, WORDS};
+///
+/// let mut table = [0; WORDS];
+/// assert_eq!(set_up_labels(&mut table, &[31; 64], &[0; 64]), Ok(()));
+/// assert_eq!(set_up_labels(&mut table, &[32; 64], &[0; 64]), Err(Refusal::BadValue));
+/// assert_eq!(set_up_labels(&mut table, &[31; 63], &[0; 64]), Err(Refusal::BadListLength));
+/// ```
+pub fn set_up_labels(table: &mut [u64], clearances: &[u8], labels: &[u8]) -> Result<(), Refusal> {
+    answer_of(numbers::label_setup(table, clearances, labels)).map(|_| ())
+}
+
+/// A role request.
+///
+/// # Errors
+/// [`Refusal::WrongLength`], [`Refusal::Unsound`], [`Refusal::BadArgument`], [`Refusal::NoPermission`].
+///
+/// ```
+/// use sheetguard::{role_request, set_up_roles, Answer, Refusal, RoleRequest, WORDS};
+///
+/// # fn main() -> Result<(), Refusal> {
+/// let mut permissions = [0; 8];
+/// permissions[0] = 1 << 9;
+/// let mut table = [0; WORDS];
+/// set_up_roles(&mut table, &[0; 64], &permissions)?;
+/// let requests = [
+///     RoleRequest::Grant { role: 1, mode: 0, object: 9 },
+///     RoleRequest::Assign { user: 2, role: 1 },
+///     RoleRequest::Start { session: 0, user: 2 },
+///     RoleRequest::Activate { session: 0, role: 1 },
+///     RoleRequest::Open { session: 0, object: 9, mode: 0 },
+/// ];
+/// for request in requests {
+///     assert_eq!(role_request(&mut table, request)?, Answer::Yes);
+/// }
+/// assert_eq!(role_request(&mut table, RoleRequest::Drop { session: 0, role: 1 })?, Answer::No);
+/// let other = RoleRequest::Grant { role: 1, mode: 1, object: 9 };
+/// assert_eq!(role_request(&mut table, other), Err(Refusal::NoPermission));
+/// # Ok(())
+/// # }
+/// ```
+pub fn role_request(table: &mut [u64], request: RoleRequest) -> Result<Answer, Refusal> {
+    let [code, a, b, c] = request.numbers();
+    answer_of(numbers::role_request(table, code, a, b, c))
+}
+
+/// A label request.
+///
+/// # Errors
+/// [`Refusal::WrongLength`], [`Refusal::Unsound`], [`Refusal::NoImage`], [`Refusal::BadArgument`].
+///
+/// ```
+/// use sheetguard::{label_request, set_up_labels, Answer, LabelRequest, Refusal, Reply, WORDS};
+///
+/// # fn main() -> Result<(), Refusal> {
+/// let mut table = [0; WORDS];
+/// set_up_labels(&mut table, &[9; 64], &[0; 64])?;
+/// let reclear = LabelRequest::Reclear { user: 4, clearance: 10 };
+/// assert_eq!(label_request(&mut table, reclear)?, Reply { answer: Answer::Yes, spent: 2 });
+/// assert_eq!(label_request(&mut table, reclear)?, Reply { answer: Answer::Yes, spent: 0 });
+/// # Ok(())
+/// # }
+/// ```
+pub fn label_request(table: &mut [u64], request: LabelRequest) -> Result<Reply, Refusal> {
+    let [code, a, b, c] = request.numbers();
+    let mut spent = 0;
+    let answer = answer_of(numbers::label_request(table, code, a, b, c, &mut spent))?;
+    Ok(Reply { answer, spent })
+}
+
+/// Whether two tables have the same openings and the same effective permissions of each session.
+///
+/// # Errors
+/// [`Refusal::WrongLength`] and [`Refusal::Unsound`], for the first table and then for the second.
+///
+/// ```
+/// use sheetguard::{alike, role_request, set_up_roles, Refusal, RoleRequest, WORDS};
+///
+/// # fn main() -> Result<(), Refusal> {
+/// let mut table = [0; WORDS];
+/// set_up_roles(&mut table, &[0; 64], &[0; 8])?;
+/// let old = table;
+/// role_request(&mut table, RoleRequest::Assign { user: 0, role: 0 })?;
+/// assert!(alike(&old, &table)?);
+/// assert_eq!(alike(&old, &[]), Err(Refusal::WrongLength));
+/// # Ok(())
+/// # }
+/// ```
+pub fn alike(first: &[u64], second: &[u64]) -> Result<bool, Refusal> {
+    answer_of(numbers::alike(first, second)).map(|answer| answer == Answer::Yes)
+}
+
+/// The effective permissions of a session, a word of objects for each mode; those of an idle session are none.
+///
+/// # Errors
+/// [`Refusal::WrongLength`], [`Refusal::Unsound`], [`Refusal::BadArgument`].
+///
+/// ```
+/// use sheetguard::{effective_permissions, label_request, set_up_labels, LabelRequest, Refusal, WORDS};
+///
+/// # fn main() -> Result<(), Refusal> {
+/// let mut labels = [31; 64];
+/// labels[6] = 0;
+/// let mut table = [0; WORDS];
+/// set_up_labels(&mut table, &[9; 64], &labels)?;
+/// label_request(&mut table, LabelRequest::Start { session: 1, user: 0, level: 9 })?;
+/// let masks = effective_permissions(&table, 1)?;
+/// assert_eq!((masks[0], masks[1]), (1 << 6, !(1 << 6)));
+/// # Ok(())
+/// # }
+/// ```
+pub fn effective_permissions(table: &[u64], session: u64) -> Result<[u64; 8], Refusal> {
+    let mut masks = [0; 8];
+    answer_of(numbers::effective_permissions(table, session, &mut masks)).map(|_| masks)
+}
+
+/// The authorised roles of a user: those assigned and all their juniors, as a word.
+///
+/// # Errors
+/// [`Refusal::WrongLength`], [`Refusal::Unsound`], [`Refusal::BadArgument`].
+///
+/// ```
+/// use sheetguard::{authorised_roles, role_request, set_up_roles, Refusal, RoleRequest, WORDS};
+///
+/// # fn main() -> Result<(), Refusal> {
+/// let mut juniors = [0; 64];
+/// juniors[5] = 1 << 3;
+/// let mut table = [0; WORDS];
+/// set_up_roles(&mut table, &juniors, &[0; 8])?;
+/// role_request(&mut table, RoleRequest::Assign { user: 0, role: 5 })?;
+/// assert_eq!(authorised_roles(&table, 0)?, 1 << 5 | 1 << 3);
+/// assert_eq!(authorised_roles(&table, 64), Err(Refusal::BadArgument));
+/// # Ok(())
+/// # }
+/// ```
+pub fn authorised_roles(table: &[u64], user: u64) -> Result<u64, Refusal> {
+    let mut roles = [0];
+    answer_of(numbers::authorised_roles(table, user, &mut roles)).map(|_| roles[0])
+}

@@ -1,0 +1,104 @@
+//! The guard's calls as the C header has them, on slices and with the scope's numbers: 1 yes, 0 no, 12 to 20 a refusal.
+//!
+//! Any slice and any number may be passed; nothing here panics.
+
+extern "C" {
+    fn sheetguard_role_setup(
+        table: *mut u64,
+        words: usize,
+        juniors: *const u64,
+        n_juniors: usize,
+        permissions: *const u64,
+        n_permissions: usize,
+    ) -> u64;
+    fn sheetguard_role_request(table: *mut u64, words: usize, code: u64, a: u64, b: u64, c: u64) -> u64;
+    fn sheetguard_alike(first: *const u64, n_first: usize, second: *const u64, n_second: usize) -> u64;
+    fn sheetguard_label_setup(
+        table: *mut u64,
+        words: usize,
+        clearances: *const u8,
+        n_clearances: usize,
+        labels: *const u8,
+        n_labels: usize,
+    ) -> u64;
+    fn sheetguard_label_request(
+        table: *mut u64,
+        words: usize,
+        code: u64,
+        a: u64,
+        b: u64,
+        c: u64,
+        spent: *mut u64,
+    ) -> u64;
+    fn sheetguard_effective_permissions(
+        table: *const u64,
+        words: usize,
+        session: u64,
+        masks: *mut u64,
+        n_masks: usize,
+    ) -> u64;
+    fn sheetguard_authorised_roles(table: *const u64, words: usize, user: u64, roles: *mut u64, n_roles: usize) -> u64;
+}
+
+// In every call below a slice gives its own pointer and length, so that the pointer is not null, is aligned and has as
+// many elements as the length says; what is written is lent by `&mut`, so that it overlaps nothing.
+
+/// Writes a fresh role table from 64 words of direct juniors and 8 words of permissions.
+pub fn role_setup(table: &mut [u64], juniors: &[u64], permissions: &[u64]) -> u64 {
+    // SAFETY: see above
+    unsafe {
+        sheetguard_role_setup(
+            table.as_mut_ptr(),
+            table.len(),
+            juniors.as_ptr(),
+            juniors.len(),
+            permissions.as_ptr(),
+            permissions.len(),
+        )
+    }
+}
+
+/// A role request by its code and arguments.
+pub fn role_request(table: &mut [u64], code: u64, a: u64, b: u64, c: u64) -> u64 {
+    // SAFETY: see above
+    unsafe { sheetguard_role_request(table.as_mut_ptr(), table.len(), code, a, b, c) }
+}
+
+/// Whether two tables are alike.
+pub fn alike(first: &[u64], second: &[u64]) -> u64 {
+    // SAFETY: see above
+    unsafe { sheetguard_alike(first.as_ptr(), first.len(), second.as_ptr(), second.len()) }
+}
+
+/// Writes a fresh label table from 64 clearances and 64 object labels.
+pub fn label_setup(table: &mut [u64], clearances: &[u8], labels: &[u8]) -> u64 {
+    // SAFETY: see above
+    unsafe {
+        sheetguard_label_setup(
+            table.as_mut_ptr(),
+            table.len(),
+            clearances.as_ptr(),
+            clearances.len(),
+            labels.as_ptr(),
+            labels.len(),
+        )
+    }
+}
+
+/// A label request by its code and arguments; `spent` becomes the number of role requests made for it.
+pub fn label_request(table: &mut [u64], code: u64, a: u64, b: u64, c: u64, spent: &mut u64) -> u64 {
+    // SAFETY: see above
+    unsafe { sheetguard_label_request(table.as_mut_ptr(), table.len(), code, a, b, c, spent) }
+}
+
+/// Writes the effective permissions of a session into eight words.
+pub fn effective_permissions(table: &[u64], session: u64, masks: &mut [u64]) -> u64 {
+    // SAFETY: see above
+    unsafe { sheetguard_effective_permissions(table.as_ptr(), table.len(), session, masks.as_mut_ptr(), masks.len()) }
+}
+
+/// Writes the authorised roles of a user into one word.
+pub fn authorised_roles(table: &[u64], user: u64, roles: &mut [u64]) -> u64 {
+    // SAFETY: see above
+    unsafe { sheetguard_authorised_roles(table.as_ptr(), table.len(), user, roles.as_mut_ptr(), roles.len()) }
+}

@@ -1,0 +1,75 @@
+//! The requests. An argument may be any number; one that is out of range is refused by the guard.
+
+/// A request on a role table.
+#[derive(Clone, Copy, Debug, PartialEq, Eq)]
+#[allow(missing_docs)] // the fields are what their names say
+pub enum RoleRequest {
+    /// Yes when (mode, object) is an effective permission of the session.
+    Open { session: u64, object: u64, mode: u64 },
+    /// Always yes.
+    Close { session: u64, object: u64, mode: u64 },
+    /// Yes when the session is idle; it then belongs to the user and has no roles.
+    Start { session: u64, user: u64 },
+    /// Yes when the session is not idle; it then is, without roles and openings.
+    End { session: u64 },
+    /// Yes when the role is authorised for the user of the session.
+    Activate { session: u64, role: u64 },
+    /// Yes when the table without the active role is sound.
+    Drop { session: u64, role: u64 },
+    /// Always yes.
+    Assign { user: u64, role: u64 },
+    /// Yes when the table without the assignment is sound.
+    Deassign { user: u64, role: u64 },
+    /// Always yes for a permission.
+    Grant { role: u64, mode: u64, object: u64 },
+    /// Yes when the table without the grant is sound.
+    Revoke { role: u64, mode: u64, object: u64 },
+}
+
+impl RoleRequest {
+    /// The code and the three arguments.
+    pub(crate) fn numbers(self) -> [u64; 4] {
+        match self {
+            RoleRequest::Open { session, object, mode } => [1, session, object, mode],
+            RoleRequest::Close { session, object, mode } => [2, session, object, mode],
+            RoleRequest::Start { session, user } => [3, session, user, 0],
+            RoleRequest::End { session } => [4, session, 0, 0],
+            RoleRequest::Activate { session, role } => [5, session, role, 0],
+            RoleRequest::Drop { session, role } => [6, session, role, 0],
+            RoleRequest::Assign { user, role } => [7, user, role, 0],
+            RoleRequest::Deassign { user, role } => [8, user, role, 0],
+            RoleRequest::Grant { role, mode, object } => [9, role, mode, object],
+            RoleRequest::Revoke { role, mode, object } => [10, role, mode, object],
+        }
+    }
+}
+
+/// A request on a label table. Mode 0 reads, mode 1 writes without reading.
+#[derive(Clone, Copy, Debug, PartialEq, Eq)]
+#[allow(missing_docs)] // the fields are what their names say
+pub enum LabelRequest {
+    /// Yes when the session is not idle and its level dominates the object's label (mode 0) or the label its level
+    /// (mode 1).
+    Open { session: u64, object: u64, mode: u64 },
+    /// Always yes.
+    Close { session: u64, object: u64, mode: u64 },
+    /// Yes when the session is idle and the user's clearance dominates the level.
+    Start { session: u64, user: u64, level: u64 },
+    /// Yes when the session is not idle.
+    End { session: u64 },
+    /// Yes when the clearance dominates the level of every session of the user.
+    Reclear { user: u64, clearance: u64 },
+}
+
+impl LabelRequest {
+    /// The code and the three arguments.
+    pub(crate) fn numbers(self) -> [u64; 4] {
+        match self {
+            LabelRequest::Open { session, object, mode } => [1, session, object, mode],
+            LabelRequest::Close { session, object, mode } => [2, session, object, mode],
+            LabelRequest::Start { session, user, level } => [3, session, user, level],
+            LabelRequest::End { session } => [4, session, 0, 0],
+            LabelRequest::Reclear { user, clearance } => [5, user, clearance, 0],
+        }
+    }
+}
