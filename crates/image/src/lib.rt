@@ -93,8 +93,9 @@ fn seniority_fits(t: &[u64]) -> bool
     requires { ⌜ length (now t) ≡ 968 ⌝ }
     ensures { λ b. ⌜ b ≡ seniorityFits (state (now (t .entry))) ⌝ }
 {
+    let rows = JUNIORS;
     for r in 0..64 {
-        if t[r] != JUNIORS[r] {
+        if t[r] != rows[r] {
             return false;
         }
     }

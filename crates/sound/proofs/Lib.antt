@@ -1,4 +1,5 @@
 -- The crate's laws, in reading order.
 pub mod Items
+pub mod Grants
 pub mod Answers
 pub mod Parts

@@ -4,7 +4,7 @@ use Prim.Native.Nat.{ℕ}
 use mathlib.Core.Bool.{Bool, not}
 use lib.Dec.{eqb, leb}
 use Rattle.bits.specs.Truth.{_and_, _or_}
-use Rattle.bits.specs.Sets.{each, subset, overlap, _without_}
+use Rattle.bits.specs.Sets.{all, each, subset, overlap, _without_}
 use Rattle.table.specs.State.{State, senior, permission, mayActivate}
 
 -- q, a junior of r and another role, is not senior to r, and its juniors are juniors of r
@@ -18,6 +18,14 @@ roleFits S r = senior S r r and each (S .juniors r without r) (λ q. juniorFits 
 -- (x, o) is granted to no role or is a permission
 unfoldable pub grantFits : State → ℕ → ℕ → Bool
 grantFits S x o = eqb (S .granted x o) 0 or permission S x o
+
+-- no pair of mode x is granted to a role
+unfoldable pub noneGranted : State → ℕ → Bool
+noneGranted S x = all 64 (λ o. eqb (S .granted x o) 0)
+
+-- every pair of mode x fits
+unfoldable pub grantsFit : State → ℕ → Bool
+grantsFit S x = all 64 (λ o. grantFits S x o)
 
 -- the session's word is at most 64, and its active roles are authorised for it
 unfoldable pub rolesFit : State → ℕ → Bool

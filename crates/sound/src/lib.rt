@@ -11,7 +11,7 @@ ghost use Prim.Native.Nat.{_<_};
 ghost use lib.ListN.{length};
 ghost use Rattle.table.specs.Table.{state};
 ghost use Rattle.sound.specs.Answers.{isSound, openingsOf, sessionsOf, holdersOf};
-ghost use Rattle.sound.specs.Tests.{juniorFits, roleFits, grantFits, rolesFit, heldFits};
+ghost use Rattle.sound.specs.Tests.{juniorFits, roleFits, grantFits, noneGranted, grantsFit, rolesFit, heldFits};
 
 // Whether q, a junior of r and another role, is not senior to r, and its juniors are juniors of r.
 fn junior_fits(t: &[u64], r: usize, q: usize) -> bool
@@ -55,6 +55,34 @@ fn grant_fits(t: &[u64], x: usize, o: usize) -> bool
         return true;
     }
     bits::has(t[PERMITTED + x], o)
+}
+
+// Whether no pair of mode x is granted to a role.
+fn none_granted(t: &[u64], x: usize) -> bool
+    requires { ⌜ (length (now t) ≡ 968) × (x < 8) ⌝ }
+    ensures { λ b. ⌜ b ≡ noneGranted (state (now (t .entry))) x ⌝ }
+{
+    let mut roles = 0;
+    for o in 0..64 {
+        roles = bits::join(roles, t[GRANTED + 64 * x + o]);
+    }
+    roles == 0
+}
+
+// Whether every pair of mode x is granted to no role or is a permission.
+fn grants_fit(t: &[u64], x: usize) -> bool
+    requires { ⌜ (length (now t) ≡ 968) × (x < 8) ⌝ }
+    ensures { λ b. ⌜ b ≡ grantsFit (state (now (t .entry))) x ⌝ }
+{
+    if none_granted(t, x) {
+        return true;
+    }
+    for o in 0..64 {
+        if !grant_fits(t, x, o) {
+            return false;
+        }
+    }
+    true
 }
 
 // Whether the word of session s is at most 64, and its active roles are authorised for it.
@@ -104,10 +132,8 @@ pub fn is_sound(t: &[u64]) -> bool
             }
         }
         for x in 0..8 {
-            for o in 0..64 {
-                if !grant_fits(t, x, o) {
-                    break 'test false;
-                }
+            if !grants_fit(t, x) {
+                break 'test false;
             }
         }
         for s in 0..32 {

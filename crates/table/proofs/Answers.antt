@@ -7,9 +7,10 @@ use lib.Dec.{leb, ltb}
 use lib.ListN.{length, getD}
 use borrow.Author.Tests.{leb-true, le-leb, lt-leb, ltb-true, lt-ltb}
 use Rattle.bits.specs.Truth.{_and_, if_then_else_}
-use Rattle.bits.specs.Sets.{overlap, pack}
-use Rattle.bits.proofs.Truth.{is-false, and-intro, and-left, and-right, true-and, false-and, if-true, if-false}
-use Rattle.bits.proofs.Word.{pack-cong}
+use Rattle.bits.specs.Sets.{has, overlap, pack}
+use Rattle.bits.proofs.Truth.{clash, is-false, and-intro, and-left, and-right, true-and, false-and, and-false, if-true, if-false}
+use Rattle.bits.proofs.Word.{has-zero, pack-cong, pack-none}
+use Rattle.bits.proofs.Members.{overlap-elim}
 use Rattle.table.specs.State.{State, permission, covers, authorised, mayActivate, effective}
 use Rattle.table.specs.Table.{tableLength, isTable, state, tabulate}
 use Rattle.table.specs.Answers.{coveredRoles, authorisedRoles, effectivePermissions, activatable, openable, overlay, clearedFrom}
@@ -22,6 +23,13 @@ pub granted-effective : (S : State) (s x roles : ℕ) → roles ≡ pack 64 (cov
     → pack 64 (λ o. permission S x o and overlap (S .granted x o) roles) ≡ pack 64 (effective S s x)
 granted-effective S s x roles e =
     pack-cong 64 (λ o h. ap (λ (w : ℕ). permission S x o and overlap (S .granted x o) w) e ∙ sym (effective-is S s x o))
+
+-- to no role nothing is granted
+pub granted-none : (S : State) (x roles : ℕ) → roles ≡ 0 → 0 ≡ pack 64 (λ o. permission S x o and overlap (S .granted x o) roles)
+granted-none S x roles e =
+    sym (pack-none 64 (λ o h. and-false (permission S x o) (is-false (λ m.
+    let f = overlap-elim (S .granted x o) roles m in
+    clash (f .holds) (ap (λ (w : ℕ). has w (f .at)) e ∙ has-zero (f .at))))))
 
 module _ (t : List ℕ) where
   pub covered-roles-are : (roles : ℕ) → isTable t ≡ true → pack 64 (covers (state t) roles) ≡ coveredRoles t roles

@@ -60,6 +60,9 @@ fn granted_objects(t: &[u64], roles: u64, x: usize) -> u64
     requires { ⌜ (length (now t) ≡ 968) × (x < 8) ⌝ }
     ensures { λ r. ⌜ r ≡ pack 64 (λ o. permission (state (now (t .entry))) x o and overlap (state (now (t .entry)) .granted x o) roles) ⌝ }
 {
+    if roles == 0 {
+        return 0;
+    }
     let mut found: u64 = 0;
     let mut left = t[PERMITTED + x];
     while left != 0 {

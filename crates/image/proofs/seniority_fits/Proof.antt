@@ -6,7 +6,7 @@ use mathlib.Core.Bool.{true}
 use lib.Dec.{eqb}
 use borrow.Author.Tests.{eq-eqb, ne-eqb}
 use Rattle.bits.specs.Sets.{pack}
-use Rattle.bits.proofs.Below.{all-intro, all-fails, widen, Passed, passed-none, passed-more, passed-all}
+use Rattle.bits.proofs.Below.{all-intro, all-fails, Passed, passed-none, passed-more, passed-all}
 use Rattle.table.specs.Table.{state}
 use Rattle.image.specs.Image.{above, seniorityFits}
 use Rattle.image.proofs.Rows.{row-is}
@@ -14,10 +14,10 @@ use Rattle.image.proofs.seniority_fits.Statement.{statement}
 use Rattle.image.proofs.seniority_fits.Tie as tie
 
 abbrev Inv-loop : tie.InvT-loop
-Inv-loop t r₀ r = Passed (λ r. eqb (state t .juniors r) (pack 64 (above r)) ≡ true) 64 r
+Inv-loop t rows r₀ r = Passed (λ r. eqb (state t .juniors r) (pack 64 (above r)) ≡ true) 64 r
 
 abbrev μ-loop : tie.MeasureT-loop
-μ-loop t r₀ r = 64 - r
+μ-loop t rows r₀ r = 64 - r
 
 returns : tie.Need-returns Inv-loop μ-loop
 unfolding seniorityFits

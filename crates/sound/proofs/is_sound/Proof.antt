@@ -1,6 +1,6 @@
 -- `is_sound` meets its contract: each loop has shown of every item that it passed that the item fits. Assumes nothing.
 use borrow.Author.Needs.{needs}
-use Prim.Native.Nat.{ℕ, _-_, _<_}
+use Prim.Native.Nat.{_-_}
 use mathlib.Core.Path.{_≡_, sym, _∙_}
 use mathlib.Core.Bool.{true}
 use native.Mathlib.Omega.{arith}
@@ -9,8 +9,9 @@ use Rattle.bits.proofs.Below.{widen, Passed, passed-none, passed-more, passed-a
 use Rattle.table.specs.Table.{state}
 use Rattle.table.proofs.Table.{is-table}
 use Rattle.table.proofs.Answers.{covered-roles-are}
-use Rattle.sound.specs.Tests.{roleFits, grantFits, heldFits}
-use Rattle.sound.proofs.Items.{SessionFits, sound-role, sound-grant, sound-roles, sound-held, session-fits, items-sound}
+use Rattle.sound.specs.Tests.{roleFits, grantsFit, heldFits}
+use Rattle.sound.proofs.Items.{SessionFits, sound-role, sound-roles, sound-held, session-fits, items-sound}
+use Rattle.sound.proofs.Grants.{sound-grants, each-grant}
 use Rattle.sound.proofs.Answers.{unsound, no-table, found-sound}
 use Rattle.sound.proofs.is_sound.Statement.{statement}
 use Rattle.sound.proofs.is_sound.Tie as tie
@@ -21,29 +22,23 @@ Inv-loop t r₀ r = Passed (λ r. roleFits (state t) r ≡ true) 64 r
 abbrev μ-loop : tie.MeasureT-loop
 μ-loop t r₀ r = 64 - r
 
-abbrev Inv-loop3 : tie.InvT-loop3
-Inv-loop3 t x o₀ o = Passed (λ o. grantFits (state t) x o ≡ true) 64 o
-
-abbrev μ-loop3 : tie.MeasureT-loop3
-μ-loop3 t x o₀ o = 64 - o
-
 abbrev Inv-loop2 : tie.InvT-loop2
-Inv-loop2 t x₀ x = Passed (λ x. (o : ℕ) → o < 64 → grantFits (state t) x o ≡ true) 8 x
+Inv-loop2 t x₀ x = Passed (λ x. grantsFit (state t) x ≡ true) 8 x
 
 abbrev μ-loop2 : tie.MeasureT-loop2
 μ-loop2 t x₀ x = 8 - x
 
-abbrev Inv-loop5 : tie.InvT-loop5
-Inv-loop5 t s roles x₀ x = Passed (λ x. heldFits (state t) roles s x ≡ true) 8 x
-
-abbrev μ-loop5 : tie.MeasureT-loop5
-μ-loop5 t s roles x₀ x = 8 - x
-
 abbrev Inv-loop4 : tie.InvT-loop4
-Inv-loop4 t s₀ s = Passed (SessionFits (state t)) 32 s
+Inv-loop4 t s roles x₀ x = Passed (λ x. heldFits (state t) roles s x ≡ true) 8 x
 
 abbrev μ-loop4 : tie.MeasureT-loop4
-μ-loop4 t s₀ s = 32 - s
+μ-loop4 t s roles x₀ x = 8 - x
+
+abbrev Inv-loop3 : tie.InvT-loop3
+Inv-loop3 t s₀ s = Passed (SessionFits (state t)) 32 s
+
+abbrev μ-loop3 : tie.MeasureT-loop3
+μ-loop3 t s₀ s = 32 - s
 
 abbrev Inv-test : tie.InvT-test
 Inv-test t = Unit {0}
@@ -51,46 +46,45 @@ Inv-test t = Unit {0}
 abbrev μ-test : tie.MeasureT-test
 μ-test t = 0
 
-loop4-again : tie.Need-loop4-again Inv-loop μ-loop Inv-loop3 μ-loop3 Inv-loop2 μ-loop2 Inv-loop5 μ-loop5 Inv-loop4 μ-loop4 Inv-test μ-test
-loop4-again c =
+loop3-again : tie.Need-loop3-again Inv-loop μ-loop Inv-loop2 μ-loop2 Inv-loop4 μ-loop4 Inv-loop3 μ-loop3 Inv-test μ-test
+loop3-again c =
     let j = c .before .before in
     let told = j .before .before .before in
     let turn = told .before in
-    passed-more (turn .before .loop4 .inv) (widen 32 (turn .loop4-test .taken) tt)
+    passed-more (turn .before .loop3 .inv) (widen 32 (turn .loop3-test .taken) tt)
     (session-fits (confirmed (told .roles-fit .ensures) (j .before .before .if4 .left)) (j .covered-roles .ensures ∙ sym (covered-roles-are _ _ (is-table _ (turn .before .before .before .before .before .before .before .if1 .left))))
-    (passed-all (c .before .loop5 .inv) (c .loop5-test .left)))
+    (passed-all (c .before .loop4 .inv) (c .loop4-test .left)))
 
-returns-2 : tie.Need-returns-2 Inv-loop μ-loop Inv-loop3 μ-loop3 Inv-loop2 μ-loop2 Inv-loop5 μ-loop5 Inv-loop4 μ-loop4 Inv-test μ-test
+returns-2 : tie.Need-returns-2 Inv-loop μ-loop Inv-loop2 μ-loop2 Inv-loop4 μ-loop4 Inv-loop3 μ-loop3 Inv-test μ-test
 returns-2 c =
     let told = c .before in
     let turn = told .before in
     unsound _ (λ f. sound-role _ f (turn .before .loop .r) (turn .loop-test .taken)) (refuted (told .role-fits .ensures) (c .if2 .taken))
 
-returns-3 : tie.Need-returns-3 Inv-loop μ-loop Inv-loop3 μ-loop3 Inv-loop2 μ-loop2 Inv-loop5 μ-loop5 Inv-loop4 μ-loop4 Inv-test μ-test
+returns-3 : tie.Need-returns-3 Inv-loop μ-loop Inv-loop2 μ-loop2 Inv-loop4 μ-loop4 Inv-loop3 μ-loop3 Inv-test μ-test
 returns-3 c =
     let told = c .before in
     let turn = told .before in
-    let outer = turn .before .before in
-    let known = outer .before .before .before .before .before .before in
-    unsound _ (λ f. sound-grant _ f (outer .before .loop2 .x) (turn .before .loop3 .o) (known .shared-slice-known .given _ .fits) (outer .loop2-test .taken) (turn .loop3-test .taken))
-    (refuted (told .grant-fits .ensures) (c .if3 .taken))
+    let known = turn .before .before .before .before .before .before in
+    unsound _ (λ f. sound-grants _ _ f (λ o. known .shared-slice-known .given _ .fits) (widen 8 (turn .loop2-test .taken) tt))
+    (refuted (told .grants-fit .ensures) (c .if3 .taken))
 
-returns-4 : tie.Need-returns-4 Inv-loop μ-loop Inv-loop3 μ-loop3 Inv-loop2 μ-loop2 Inv-loop5 μ-loop5 Inv-loop4 μ-loop4 Inv-test μ-test
+returns-4 : tie.Need-returns-4 Inv-loop μ-loop Inv-loop2 μ-loop2 Inv-loop4 μ-loop4 Inv-loop3 μ-loop3 Inv-test μ-test
 returns-4 c =
     let told = c .before in
     let turn = told .before in
-    unsound _ (λ f. sound-roles _ f (turn .before .loop4 .s) (widen 32 (turn .loop4-test .taken) tt)) (refuted (told .roles-fit .ensures) (c .if4 .taken))
+    unsound _ (λ f. sound-roles _ f (turn .before .loop3 .s) (widen 32 (turn .loop3-test .taken) tt)) (refuted (told .roles-fit .ensures) (c .if4 .taken))
 
-returns-5 : tie.Need-returns-5 Inv-loop μ-loop Inv-loop3 μ-loop3 Inv-loop2 μ-loop2 Inv-loop5 μ-loop5 Inv-loop4 μ-loop4 Inv-test μ-test
+returns-5 : tie.Need-returns-5 Inv-loop μ-loop Inv-loop2 μ-loop2 Inv-loop4 μ-loop4 Inv-loop3 μ-loop3 Inv-test μ-test
 returns-5 c =
     let told = c .before in
     let turn = told .before in
     let j = turn .before .before in
     let outer = j .before .before .before .before in
-    unsound _ (λ f. sound-held _ f (j .covered-roles .result) (outer .before .loop4 .s) (turn .before .loop5 .x) (j .covered-roles .ensures ∙ sym (covered-roles-are _ _ (is-table _ (outer .before .before .before .before .before .before .before .if1 .left)))) (widen 32 (outer .loop4-test .taken) tt) (widen 8 (turn .loop5-test .taken) tt))
+    unsound _ (λ f. sound-held _ f (j .covered-roles .result) (outer .before .loop3 .s) (turn .before .loop4 .x) (j .covered-roles .ensures ∙ sym (covered-roles-are _ _ (is-table _ (outer .before .before .before .before .before .before .before .if1 .left)))) (widen 32 (outer .loop3-test .taken) tt) (widen 8 (turn .loop4-test .taken) tt))
     (refuted (told .held-fits .ensures) (c .if5 .taken))
 
-returns-6 : tie.Need-returns-6 Inv-loop μ-loop Inv-loop3 μ-loop3 Inv-loop2 μ-loop2 Inv-loop5 μ-loop5 Inv-loop4 μ-loop4 Inv-test μ-test
+returns-6 : tie.Need-returns-6 Inv-loop μ-loop Inv-loop2 μ-loop2 Inv-loop4 μ-loop4 Inv-loop3 μ-loop3 Inv-test μ-test
 returns-6 c =
     let modes = c .before .before in
     let roles = modes .before .before in
@@ -103,8 +97,8 @@ returns-6 c =
       holds-word = λ s x. entry .before .shared-slice-known .given _ .fits;
     })
     (passed-all (roles .before .loop .inv) (roles .loop-test .left))
-    (λ x o hx ho. all-modes x hx o ho)
-    (passed-all (c .before .loop4 .inv) (c .loop4-test .left)))
+    (λ x o hx ho. each-grant _ x (all-modes x hx) o ho)
+    (passed-all (c .before .loop3 .inv) (c .loop3-test .left)))
 
 pub is-sound-spec : {M : Type 1} → statement M
 is-sound-spec =
@@ -112,14 +106,12 @@ is-sound-spec =
     (tie.spec
     Inv-loop
     μ-loop
-    Inv-loop3
-    μ-loop3
     Inv-loop2
     μ-loop2
-    Inv-loop5
-    μ-loop5
     Inv-loop4
     μ-loop4
+    Inv-loop3
+    μ-loop3
     Inv-test
     μ-test
     (λ c. no-table _ (c .if1 .taken))
@@ -130,28 +122,24 @@ is-sound-spec =
     (λ c. search needs)
     (λ c. passed-more (c .before .before .before .loop .inv) (widen 64 (c .before .before .loop-test .taken) tt) (confirmed (c .before .role-fits .ensures) (c .if2 .left)))
     (λ c. passed-none)
+    (λ c κs. search needs)
+    (λ c. search needs)
+    (λ c. search needs)
+    (λ c. passed-more (c .before .before .before .loop2 .inv) (widen 8 (c .before .before .loop2-test .taken) tt) (confirmed (c .before .grants-fit .ensures) (c .if3 .left)))
     (λ c. passed-none)
     (λ c κs. search needs)
     (λ c. search needs)
     (λ c. search needs)
-    (λ c. passed-more (c .before .before .before .loop3 .inv) (widen 64 (c .before .before .loop3-test .taken) tt) (confirmed (c .before .grant-fits .ensures) (c .if3 .left)))
-    (λ c. search needs)
-    (λ c. search needs)
-    (λ c. passed-more (c .before .before .before .loop2 .inv) (widen 8 (c .before .before .loop2-test .taken) tt) (passed-all (c .before .loop3 .inv) (c .loop3-test .left)))
-    (λ c. passed-none)
-    (λ c κs. search needs)
-    (λ c. search needs)
-    (λ c. search needs)
     (λ c. search needs)
     (λ c κs. search needs)
     (λ c. passed-none)
     (λ c κs. search needs)
     (λ c. search needs)
     (λ c. search needs)
-    (λ c. passed-more (c .before .before .before .loop5 .inv) (widen 8 (c .before .before .loop5-test .taken) tt) (confirmed (c .before .held-fits .ensures) (c .if5 .left)))
+    (λ c. passed-more (c .before .before .before .loop4 .inv) (widen 8 (c .before .before .loop4-test .taken) tt) (confirmed (c .before .held-fits .ensures) (c .if5 .left)))
     (λ c. search needs)
     (λ c. search needs)
-    loop4-again
+    loop3-again
     returns-2
     returns-3
     returns-4
