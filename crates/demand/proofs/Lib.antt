@@ -3,5 +3,6 @@ pub mod Deciding
 pub mod Changing
 pub mod Simulation
 pub mod Demand
+pub mod Reaching
 pub mod Listing
 pub mod Running

@@ -1,3 +1,4 @@
 -- The crate's definitions, in reading order.
 pub mod Demand
 pub mod Run
+pub mod Claims

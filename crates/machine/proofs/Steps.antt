@@ -2,16 +2,17 @@
 use Prim.Native.Nat.{ℕ, zero, suc, _≤_, _<_, suc-le-suc}
 use mathlib.Core.Path.{_≡_, refl, sym, ap, _∙_}
 use mathlib.Core.Bool.{true, false, not}
+use native.Mathlib.Nat.{le-of-suc-le-suc}
 use native.Mathlib.Omega.{arith}
 use lib.Dec.{eqb}
 use borrow.Author.Tests.{leb-true}
 use Rattle.bits.specs.Truth.{_and_, if_then_else_}
 use Rattle.bits.specs.Sets.{all}
-use Rattle.bits.proofs.Truth.{by-truth, and-left, and-right, past, stopped}
+use Rattle.bits.proofs.Truth.{by-truth, and-intro, and-left, and-right, past, stopped}
 use Rattle.roles.specs.Request.{Ask, ask, Outcome, refuse, decide}
 use Rattle.roles.proofs.Serving.{decide-yes, decide-no}
 use Rattle.roles.proofs.Codes.{within-elim}
-use Rattle.roles.proofs.Requests.{refuse-is}
+use Rattle.roles.proofs.Requests.{refuse-is, within-intro}
 use Rattle.machine.specs.Label.{dominates}
 use Rattle.machine.specs.Machine.{Machine, idle, at, isIdle, mayOpen, fits, withHeld, withSeat, withClearance, Request, opening, closing, starting, ending, reclearing, isCode, limits, inRange, decode, allowed, next, figure, act, step}
 
@@ -167,3 +168,23 @@ module _ (m : Machine) where
       (withClearance m u c) m
   unfolding act allowed figure next if_then_else_
   act-reclearing u c = refl
+
+-- ---- a yes, as it is asked for
+
+module _ (m : Machine) (s : ℕ) (hs : s < 32) where
+  pub opens : (o x : ℕ) → o < 64 → x < 2 → mayOpen (m .seat s) (m .label o) x ≡ true → step m (ask 1 s o x) .state ≡ withHeld m s o x true
+  unfolding isCode inRange limits decode _and_
+  opens o x ho hx a =
+      ap (λ (r : Outcome Machine). r .state)
+      (step-does m (ask 1 s o x) refl (within-intro _ 1 s o x (le-of-suc-le-suc hs) (le-of-suc-le-suc ho) (le-of-suc-le-suc hx))
+      ∙ act-opening m s o x
+      ∙ decide-yes 1 1 (withHeld m s o x true) m a)
+
+  pub starts : (u y : ℕ) → u < 64 → y < 32 → isIdle (m .seat s) ≡ true → dominates (m .clearance u) y ≡ true
+      → step m (ask 3 s u y) .state ≡ withSeat m s (at u y)
+  unfolding isCode inRange limits decode _and_
+  starts u y hu hy i d =
+      ap (λ (r : Outcome Machine). r .state)
+      (step-does m (ask 3 s u y) refl (within-intro _ 3 s u y (le-of-suc-le-suc hs) (le-of-suc-le-suc hu) (le-of-suc-le-suc hy))
+      ∙ act-starting m s u y
+      ∙ decide-yes _ _ (withSeat m s (at u y)) m (and-intro i d))

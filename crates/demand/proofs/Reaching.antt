@@ -1,0 +1,313 @@
+-- A state is safe exactly when the machine can reach it: the claims of specs/Claims.antt. Assumes nothing.
+use Prim.Native.Nat.{ℕ, zero, suc, _<_}
+use mathlib.Core.Path.{_≡_, refl, sym, ap, ap₂, subst, _∙_}
+use mathlib.Core.Bool.{Bool, true, false}
+use mathlib.Core.List.{List, [], _∷_, _++_}
+use native.Mathlib.Omega.{arith}
+use lib.Dec.{eqb}
+use borrow.Author.Tests.{eq-eqb, eqb-true, eqb-false, lt-ltb}
+use Rattle.bits.specs.Truth.{_and_}
+use Rattle.bits.proofs.Truth.{clash, by-truth, same-truth, if-true, if-false, and-intro, and-left, and-right}
+use Rattle.bits.proofs.Below.{all-intro}
+use Rattle.table.specs.Table.{tableLength, isTable, tabulate}
+use Rattle.table.proofs.Agree.{by-upd, upd-same}
+use Rattle.table.proofs.Tabulate.{length-tabulate, getD-tabulate}
+use Rattle.table.proofs.Table.{is-table}
+use Rattle.sound.specs.Answers.{isSound}
+use Rattle.roles.specs.Request.{Ask, ask, Outcome}
+use Rattle.machine.specs.Label.{dominates}
+use Rattle.machine.specs.Machine.{Machine, Seat, idle, at, isIdle, mayOpen, withHeld, withSeat, step}
+use Rattle.machine.proofs.Seats.{idle-at}
+use Rattle.machine.proofs.Steps.{opens, starts}
+use Rattle.image.specs.SetUp.{begin, areLabels}
+use Rattle.image.specs.Claims.{Ranged, Safe}
+use Rattle.image.proofs.Claims.{sound-image, image-means}
+use Rattle.image.proofs.Beginning.{accepted, begin-ranged, begin-safe}
+use Rattle.demand.specs.Demand.{final}
+use Rattle.demand.specs.Claims.{Same, Reachable, ReachableImage, ReachableMeans}
+use Rattle.demand.proofs.Simulation.{Good, next-good}
+use Rattle.demand.proofs.Demand.{begin-good}
+
+-- ---- what is reached is safe
+
+final-good : (qs : List Ask) (m : Machine) → Good m → Good (final step m qs)
+unfolding final
+final-good [] m g = g
+final-good (q ∷ qs) m g = final-good qs (step m q .state) (next-good m g q)
+
+module _ {m n : Machine} where
+  same-ranged : Same m n → Ranged n → Ranged m
+  same-ranged e g = record {
+    clearances = λ u h. subst (λ (c : ℕ). c < 32) (sym (e .clearances u h)) (g .clearances u h);
+    labels = λ o h. subst (λ (l : ℕ). l < 32) (sym (e .labels o h)) (g .labels o h);
+    seats = λ s u y h z. g .seats s u y h (sym (e .seats s h) ∙ z);
+  }
+
+  same-safe : Ranged m → Same m n → Safe n → Safe m
+  same-safe g e f = record {
+    cleared = λ s u y h z.
+        ap (λ (c : ℕ). dominates c y) (e .clearances u (g .seats s u y h z .0)) ∙ f .cleared s u y h (sym (e .seats s h) ∙ z);
+    openings = λ s o x hs ho hx z.
+        ap₂ (λ (k : Seat) (l : ℕ). mayOpen k l x) (e .seats s hs) (e .labels o ho)
+        ∙ f .openings s o x hs ho hx (sym (e .openings s o x hs ho hx) ∙ z);
+  }
+
+-- ---- what is safe is reached: the sessions are started one after the other, and each opens what it holds
+
+final-last : (qs : List Ask) (q : Ask) (m : Machine) → final step m (qs ++ (q ∷ [])) ≡ step (final step m qs) q .state
+unfolding final
+final-last [] q m = refl
+final-last (p ∷ qs) q m = final-last qs q (step m p .state)
+
+module _ (m : Machine) (g : Ranged m) (f : Safe m) where
+  abbrev clearances : List ℕ
+  clearances = tabulate 64 (m .clearance)
+
+  abbrev labels : List ℕ
+  labels = tabulate 64 (m .label)
+
+  -- a state on the way to m: no session has another seat or other openings
+  record Toward (n : Machine) : Type 0 where
+    requests : List Ask
+    reached : final step (begin clearances labels) requests ≡ n
+    good : Good n
+    same-clearances : (u : ℕ) → u < 64 → n .clearance u ≡ m .clearance u
+    same-labels : (o : ℕ) → o < 64 → n .label o ≡ m .label o
+    seats : (s : ℕ) → s < 32 → (n .seat s ≡ idle → ⊥) → n .seat s ≡ m .seat s
+    openings : (s o x : ℕ) → s < 32 → o < 64 → x < 2 → n .held s o x ≡ true → m .held s o x ≡ true
+
+  -- what a has of m is there in b
+  record Kept (a b : Machine) : Type 0 where
+    seats : (s : ℕ) → s < 32 → a .seat s ≡ m .seat s → b .seat s ≡ m .seat s
+    openings : (s o x : ℕ) → s < 32 → o < 64 → x < 2 → a .held s o x ≡ true → b .held s o x ≡ true
+
+  -- from n on, a state of which C holds
+  record Further (n : Machine) (C : Machine → Type 0) : Type 0 where
+    next : Machine
+    toward : Toward next
+    kept : Kept n next
+    has : C next
+
+  stay : {C : Machine → Type 0} {n : Machine} → Toward n → C n → Further n C
+  stay {C} {n} t c = record { next = n; toward = t; kept = record { seats = λ s h e. e; openings = λ s o x hs ho hx e. e }; has = c }
+
+  through : {a b c : Machine} → Kept a b → Kept b c → Kept a c
+  through k l = record {
+    seats = λ s h e. l .seats s h (k .seats s h e);
+    openings = λ s o x hs ho hx e. l .openings s o x hs ho hx (k .openings s o x hs ho hx e);
+  }
+
+  -- what can be had of each number below top, and is kept, can be had of all
+  sweep : (C : ℕ → Machine → Type 0) (top : ℕ) → ((i : ℕ) → i < top → (a b : Machine) → Kept a b → C i a → C i b)
+      → (base : Machine) → ((i : ℕ) → i < top → (n : Machine) → Toward n → Kept base n → Further n (C i))
+      → Toward base → Further base (λ n. (i : ℕ) → i < top → C i n)
+  sweep C zero k base w t = stay t (λ i h. absurd (omega arith))
+  sweep C (suc top) k base w t =
+      let a = sweep C top (λ i h. k i (omega arith)) base (λ i h. w i (omega arith)) t in
+      let b = w top (omega arith) (a .next) (a .toward) (a .kept) in
+      record {
+        next = b .next;
+        toward = b .toward;
+        kept = through (a .kept) (b .kept);
+        has = λ i h. by-truth (eqb i top)
+            (λ e. subst (λ (j : ℕ). C j (b .next)) (sym (eqb-true i top e)) (b .has))
+            (λ e. let n = eqb-false i top e in k i (omega arith) (a .next) (b .next) (b .kept) (a .has i (omega arith)));
+      }
+
+  -- one more request
+  asked : {n k : Machine} (t : Toward n) (q : Ask) → step n q .state ≡ k → final step (begin clearances labels) (t .requests ++ (q ∷ [])) ≡ k
+  asked t q e = final-last (t .requests) q (begin clearances labels) ∙ ap (λ (n : Machine). step n q .state) (t .reached) ∙ e
+
+  good-after : {n k : Machine} → Toward n → (q : Ask) → step n q .state ≡ k → Good k
+  good-after {n} t q e = subst Good e (next-good n (t .good) q)
+
+  -- session s opens o in mode x
+  module _ (s o x : ℕ) (hs : s < 32) (ho : o < 64) (hx : x < 2) (n : Machine) (t : Toward n) (e : n .seat s ≡ m .seat s) where
+    open-held : m .held s o x ≡ true → Further n (λ k. m .held s o x ≡ true → k .held s o x ≡ true)
+    open-held h = record {
+      next = withHeld n s o x true;
+      toward = record {
+        requests = t .requests ++ (ask 1 s o x ∷ []);
+        reached = asked t (ask 1 s o x) opened;
+        good = good-after t (ask 1 s o x) opened;
+        same-clearances = t .same-clearances;
+        same-labels = t .same-labels;
+        seats = t .seats;
+        openings = λ p q y hp hq hy z. by-truth (eqb p s and eqb q o and eqb y x)
+            (λ b. here p q y b h)
+            (λ b. t .openings p q y hp hq hy (sym (if-false true (n .held p q y) b) ∙ z));
+      };
+      kept = record {
+        seats = λ p l z. z;
+        openings = λ p q y hp hq hy z. by-truth (eqb p s and eqb q o and eqb y x)
+            (λ b. if-true true (n .held p q y) b)
+            (λ b. if-false true (n .held p q y) b ∙ z);
+      };
+      has = λ z. if-true true (n .held s o x) (and-intro (eq-eqb s s refl) (and-intro (eq-eqb o o refl) (eq-eqb x x refl)));
+    }
+      where
+        opened : step n (ask 1 s o x) .state ≡ withHeld n s o x true
+        opened =
+            opens n s hs o x ho hx
+            (ap₂ (λ (k : Seat) (l : ℕ). mayOpen k l x) e (t .same-labels o ho) ∙ f .openings s o x hs ho hx h)
+
+        here : (p q y : ℕ) → eqb p s and eqb q o and eqb y x ≡ true → m .held s o x ≡ true → m .held p q y ≡ true
+        here p q y b z =
+            rw (eqb-true p s (and-left _ _ b), eqb-true q o (and-left _ _ (and-right (eqb p s) _ b)), eqb-true y x (and-right (eqb q o) _ (and-right (eqb p s) _ b))) z
+
+    open-one : Further n (λ k. m .held s o x ≡ true → k .held s o x ≡ true)
+    open-one = by-truth (m .held s o x) open-held (λ h. stay t (λ z. clash z h))
+
+  -- session s is started where it is not idle in m
+  module _ (s : ℕ) (hs : s < 32) (n : Machine) (t : Toward n) where
+    start-at : (u y : ℕ) → m .seat s ≡ at u y → n .seat s ≡ idle → Further n (λ k. k .seat s ≡ m .seat s)
+    start-at u y e i = record {
+      next = withSeat n s (at u y);
+      toward = record {
+        requests = t .requests ++ (ask 3 s u y ∷ []);
+        reached = asked t (ask 3 s u y) started;
+        good = good-after t (ask 3 s u y) started;
+        same-clearances = t .same-clearances;
+        same-labels = t .same-labels;
+        seats = λ p h. by-upd (n .seat) s (at u y) (λ (k : Seat). (k ≡ idle → ⊥) → k ≡ m .seat p) p
+            (λ q z. sym (ap (m .seat) q ∙ e))
+            (λ q z. t .seats p h z);
+        openings = λ p o x hp ho hx. by-upd (n .held) s (λ o x. false) (λ (h : ℕ → ℕ → Bool). h o x ≡ true → m .held p o x ≡ true) p
+            (λ q z. clash z refl)
+            (λ q z. t .openings p o x hp ho hx z);
+      };
+      kept = record {
+        seats = λ p h z. by-upd (n .seat) s (at u y) (λ (k : Seat). k ≡ m .seat p) p (λ q. sym (ap (m .seat) q ∙ e)) (λ q. z);
+        openings = λ p o x hp ho hx z. by-upd (n .held) s (λ o x. false) (λ (h : ℕ → ℕ → Bool). h o x ≡ true) p
+            (λ q. absurd (nothing-open p o x q hp ho hx z))
+            (λ q. z);
+      };
+      has = upd-same (n .seat) s (at u y) ∙ sym e;
+    }
+      where
+        started : step n (ask 3 s u y) .state ≡ withSeat n s (at u y)
+        started =
+            let r = g .seats s u y hs e in
+            starts n s hs u y (r .0) (r .1) (ap isIdle i ∙ unfold isIdle in refl)
+            (ap (λ (c : ℕ). dominates c y) (t .same-clearances u (r .0)) ∙ f .cleared s u y hs e)
+
+        nothing-open : (p o x : ℕ) → p ≡ s → p < 32 → o < 64 → x < 2 → n .held p o x ≡ true → ⊥
+        nothing-open p o x q hp ho hx z =
+            clash (t .good .safe .openings p o x hp ho hx z)
+            (ap (λ (k : Seat). mayOpen k (n .label o) x) (ap (n .seat) q ∙ i) ∙ unfold mayOpen in refl)
+
+    start-one : (j k : Seat) → n .seat s ≡ j → m .seat s ≡ k → Further n (λ a. a .seat s ≡ m .seat s)
+    start-one (at u y) k d e = stay t (t .seats s hs (λ z. idle-at u y (sym z ∙ d)))
+    start-one idle idle d e = stay t (d ∙ sym e)
+    start-one idle (at u y) d e = start-at u y e d
+
+  abbrev Holds : ℕ → ℕ → ℕ → Machine → Type 0
+  Holds s o x n = m .held s o x ≡ true → n .held s o x ≡ true
+
+  abbrev HoldsAll : ℕ → ℕ → Machine → Type 0
+  HoldsAll s o n = (x : ℕ) → x < 2 → Holds s o x n
+
+  record Session (s : ℕ) (n : Machine) : Type 0 where
+    seat : n .seat s ≡ m .seat s
+    openings : (o : ℕ) → o < 64 → HoldsAll s o n
+
+  -- session s opens all that it holds in m
+  open-all : (s : ℕ) → s < 32 → (n : Machine) → n .seat s ≡ m .seat s → Toward n → Further n (λ k. (o : ℕ) → o < 64 → HoldsAll s o k)
+  open-all s hs n e =
+      sweep (HoldsAll s) 64 (λ o ho a b k w x hx h. k .openings s o x hs ho hx (w x hx h)) n (λ o ho a t k.
+      sweep (Holds s o) 2 (λ x hx a b k w h. k .openings s o x hs ho hx (w h)) a (λ x hx b t l.
+      open-one s o x hs ho hx b t (l .seats s hs (k .seats s hs e))) t)
+
+  serve-one : (s : ℕ) → s < 32 → (n : Machine) → Toward n → Further n (Session s)
+  serve-one s hs n t =
+      let a = start-one s hs n t (n .seat s) (m .seat s) refl refl in
+      let b = open-all s hs (a .next) (a .has) (a .toward) in
+      record {
+        next = b .next;
+        toward = b .toward;
+        kept = through (a .kept) (b .kept);
+        has = record { seat = b .kept .seats s hs (a .has); openings = b .has };
+      }
+
+  serve-all : (n : Machine) → Toward n → Further n (λ k. (s : ℕ) → s < 32 → Session s k)
+  serve-all n =
+      sweep Session 32 (λ s hs a b k w. record {
+        seat = k .seats s hs (w .seat);
+        openings = λ o ho x hx h. k .openings s o x hs ho hx (w .openings o ho x hx h);
+      }) n (λ s hs k t l. serve-one s hs k t)
+
+  are-labels : (v : ℕ → ℕ) → ((i : ℕ) → i < 64 → v i < 32) → areLabels (tabulate 64 v) ≡ true
+  unfolding areLabels
+  are-labels v h = all-intro _ 64 (λ i l. lt-ltb _ 32 (subst (λ (n : ℕ). n < 32) (sym (getD-tabulate 64 v 0 i l)) (h i l)))
+
+  begins : Toward (begin clearances labels)
+  unfolding begin final
+  begins = record {
+    requests = [];
+    reached = refl;
+    good = record {
+      ranged = begin-ranged clearances labels (are-labels (m .clearance) (g .clearances)) (are-labels (m .label) (g .labels));
+      safe = begin-safe clearances labels;
+    };
+    same-clearances = getD-tabulate 64 (m .clearance) 0;
+    same-labels = getD-tabulate 64 (m .label) 0;
+    seats = λ s h n. absurd (n refl);
+    openings = λ s o x hs ho hx e. clash e refl;
+  }
+
+  safe-reached : Reachable m
+  safe-reached =
+      let a = serve-all (begin clearances labels) begins in
+      let t = a .toward in
+      record {
+        clearances = clearances;
+        labels = labels;
+        accepted = λ t i. ap (λ (o : Outcome (List ℕ)). o .answer) (accepted t clearances labels (record {
+          table = i;
+          long-clearances = length-tabulate 64 (m .clearance);
+          long-labels = length-tabulate 64 (m .label);
+          clearances-known = are-labels (m .clearance) (g .clearances);
+          labels-known = are-labels (m .label) (g .labels);
+        }));
+        requests = t .requests;
+        reached = subst (Same m) (sym (t .reached)) (record {
+          clearances = λ u h. sym (t .same-clearances u h);
+          labels = λ o h. sym (t .same-labels o h);
+          seats = λ s h. sym (a .has s h .seat);
+          openings = λ s o x hs ho hx. same-truth (a .has s hs .openings o ho x hx) (t .openings s o x hs ho hx);
+        });
+      }
+
+-- ---- the claims
+
+blank : List ℕ
+blank = tabulate tableLength (λ i. 0)
+
+is-blank : isTable blank ≡ true
+unfolding blank
+is-blank = is-table _ (length-tabulate tableLength (λ i. 0))
+
+reached-good : {m : Machine} (r : Reachable m) → Good (final step (begin (r .clearances) (r .labels)) (r .requests))
+reached-good r =
+    final-good (r .requests) (begin (r .clearances) (r .labels)) (begin-good blank (r .clearances) (r .labels) (r .accepted blank is-blank))
+
+reached-ranged : {m : Machine} → Reachable m → Ranged m
+reached-ranged r = same-ranged (r .reached) (reached-good r .ranged)
+
+pub reachable-image : ReachableImage
+reachable-image m g = (
+  λ e. safe-reached m g (sound-image m g .0 e),
+  λ r. sound-image m g .1 (same-safe g (r .reached) (reached-good r .safe)),
+)
+
+pub reachable-means : ReachableMeans
+reachable-means t w s = (
+  λ i.
+      let p = image-means t w s .0 i in
+      record {
+        machine = p .machine;
+        reachable = reachable-image (p .machine) (p .ranged) .0 (sym (ap isSound (p .is-image)) ∙ s);
+        is-image = p .is-image;
+      },
+  λ p. image-means t w s .1 (record { machine = p .machine; ranged = reached-ranged (p .reachable); is-image = p .is-image }),
+)

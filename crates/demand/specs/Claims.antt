@@ -1,0 +1,44 @@
+-- What is claimed of the states that the machine reaches, each as the answer to a question. proofs/Reaching.antt proves them.
+use Prim.Native.Nat.{ℕ, _^_, _<_}
+use mathlib.Core.Path.{_≡_}
+use mathlib.Core.Bool.{true}
+use mathlib.Core.List.{List}
+use mathlib.Core.Logic.{_↔_}
+use Rattle.table.specs.Table.{isTable, word, state}
+use Rattle.sound.specs.Answers.{isSound}
+use Rattle.roles.specs.Request.{Ask}
+use Rattle.machine.specs.Machine.{Machine, step}
+use Rattle.image.specs.Image.{image, isImage}
+use Rattle.image.specs.SetUp.{begin, labelSetUp}
+use Rattle.image.specs.Claims.{Ranged}
+use Rattle.demand.specs.Demand.{final}
+
+-- two machine states have the same clearances, labels, seats and openings
+pub record Same (m n : Machine) : Type 0 where
+  pub clearances : (u : ℕ) → u < 64 → m .clearance u ≡ n .clearance u
+  pub labels : (o : ℕ) → o < 64 → m .label o ≡ n .label o
+  pub seats : (s : ℕ) → s < 32 → m .seat s ≡ n .seat s
+  pub openings : (s o x : ℕ) → s < 32 → o < 64 → x < 2 → m .held s o x ≡ n .held s o x
+
+-- the machine can reach the state: some requests after some accepted set-up lead to it
+pub record Reachable (m : Machine) : Type 0 where
+  pub clearances : List ℕ
+  pub labels : List ℕ
+  pub accepted : (t : List ℕ) → isTable t ≡ true → labelSetUp t clearances labels .answer ≡ 1
+  pub requests : List Ask
+  pub reached : Same m (final step (begin clearances labels) requests)
+
+-- Is the image of a machine state sound? Exactly when the machine can reach the state.
+abbrev pub ReachableImage : Type 0
+ReachableImage = (m : Machine) → Ranged m → isSound (image m) ≡ true ↔ Reachable m
+
+-- the table is the image of a state that the machine can reach
+pub record ImageOfReachable (t : List ℕ) : Type 0 where
+  pub machine : Machine
+  pub reachable : Reachable machine
+  pub is-image : t ≡ image machine
+
+-- When does a sound table pass the image test? Exactly when it is the image of a state that the machine can reach. So refusal
+-- 14 reads the same whichever states are meant: all (`ImageMeans` of the crate image) or those that are reached.
+abbrev pub ReachableMeans : Type 0
+ReachableMeans = (t : List ℕ) → ((i : ℕ) → word t i < 2 ^ 64) → isSound t ≡ true → isImage (state t) ≡ true ↔ ImageOfReachable t
