@@ -6,7 +6,8 @@ use mathlib.Core.List.{List}
 use native.Mathlib.Omega.{arith}
 use Rattle.bits.proofs.Truth.{by-truth}
 use Rattle.table.specs.Sound.{sound}
-use Rattle.table.specs.Table.{isTable, state}
+use Rattle.table.specs.Table.{isTable}
+use Rattle.table.specs.Reading.{state}
 use Rattle.sound.proofs.Answers.{sound-state, sound-table}
 use Rattle.alike.specs.Likeness.{sameState, likeness, Alike}
 use Rattle.alike.specs.Claims.{AlikeMeans, LikenessReflexive, LikenessSymmetric, LikenessTransitive}

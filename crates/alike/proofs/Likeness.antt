@@ -6,14 +6,15 @@ use mathlib.Core.List.{List}
 use lib.Dec.{eqb}
 use lib.ListN.{length, getD}
 use borrow.Author.Tests.{eq-eqb, eqb-true}
-use Rattle.bits.specs.Truth.{_and_}
-use Rattle.bits.specs.Sets.{has, pack}
+use Rattle.bits.specs.Words.{_and_, has, pack}
 use Rattle.bits.proofs.Truth.{and-intro, and-left, and-right, past, stopped, if-true, if-false}
 use Rattle.bits.proofs.Below.{all-intro, all-elim}
 use Rattle.bits.proofs.Word.{has-pack, pack-cong}
-use Rattle.table.specs.State.{State, effective}
+use Rattle.table.specs.State.{State}
+use Rattle.table.specs.Authority.{effective}
 use Rattle.table.specs.Sound.{sound}
-use Rattle.table.specs.Table.{tableLength, isTable, state}
+use Rattle.table.specs.Reading.{tableLength, state}
+use Rattle.table.specs.Table.{isTable}
 use Rattle.table.specs.Answers.{effectivePermissions}
 use Rattle.table.proofs.Table.{in-table}
 use Rattle.table.proofs.Tabulate.{getD-tabulate}

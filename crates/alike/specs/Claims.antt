@@ -1,9 +1,6 @@
 -- What is claimed of likeness, each as the answer to a question. proofs/Claims.antt proves them.
-use Prim.Native.Nat.{ℕ}
-use mathlib.Core.Path.{_≡_}
-use mathlib.Core.Bool.{true}
-use mathlib.Core.List.{List}
 use mathlib.Core.Logic.{_↔_}
+use Rattle.bits.specs.Words.{ℕ, _≡_, true, List}
 use Rattle.table.specs.State.{State}
 use Rattle.sound.specs.Answers.{isSound}
 use Rattle.alike.specs.Likeness.{sameState, likeness, Alike}

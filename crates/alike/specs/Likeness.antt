@@ -1,14 +1,10 @@
 -- Likeness of two tables (01, "Set-up and likeness"): the same openings, and the same effective permissions of each session.
-use Prim.Native.Nat.{ℕ, _<_}
-use mathlib.Core.Path.{_≡_}
-use mathlib.Core.Bool.{Bool, not}
-use mathlib.Core.List.{List}
-use lib.Dec.{eqb}
-use Rattle.bits.specs.Truth.{_and_, if_then_else_}
-use Rattle.bits.specs.Sets.{all, pack}
-use Rattle.table.specs.State.{State, effective}
+use Rattle.bits.specs.Words.{ℕ, _<_, _≡_, Bool, not, List, eqb, _and_, if_then_else_, all, pack}
+use Rattle.table.specs.State.{State}
+use Rattle.table.specs.Authority.{effective}
 use Rattle.table.specs.Sound.{sound}
-use Rattle.table.specs.Table.{isTable, state}
+use Rattle.table.specs.Table.{isTable}
+use Rattle.table.specs.Reading.{state}
 
 -- session s holds the same objects in each mode, and the same are effective for it
 unfoldable pub sameSession : State → State → ℕ → Bool

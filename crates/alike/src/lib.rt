@@ -6,7 +6,7 @@ use table::layout::WORDS;
 ghost use mathlib.Core.Path.{_≡_};
 ghost use Prim.Native.Nat.{_<_};
 ghost use lib.ListN.{length};
-ghost use Rattle.table.specs.Table.{state};
+ghost use Rattle.table.specs.Reading.{state};
 ghost use Rattle.roles.specs.Answer.{numberOf};
 ghost use Rattle.alike.specs.Likeness.{sameSession, likeness};
 

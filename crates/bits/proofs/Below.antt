@@ -7,8 +7,8 @@ use native.Mathlib.Nat.{le-of-suc-le-suc, not-suc-le-zero, eq-or-lt-of-le, lt-of
 use native.Mathlib.Numerals.{add-one}
 use native.Mathlib.Omega.{arith}
 use lib.Dec.{T, leb, lit≤}
-use Rattle.bits.specs.Truth.{_and_, _or_}
-use Rattle.bits.specs.Sets.{all, any, least, Any}
+use Rattle.bits.specs.Words.{_and_, _or_, all}
+use Rattle.bits.specs.Sets.{any, least, Any}
 use Rattle.bits.proofs.Truth.{clash, by-truth, is-false, and-intro, and-left, and-right, or-left, or-right, or-elim, if-true, if-false}
 
 -- a number below n + 1 is n or below n

@@ -6,7 +6,8 @@ use lib.Dec.{eqb}
 use lib.Bits.{bitAnd, and-le-l}
 use native.Mathlib.Nat.{lt-of-le-of-lt}
 use borrow.Author.Tests.{eq-eqb, ne-eqb, eqb-true, not-true}
-use Rattle.bits.specs.Sets.{has, each, some, subset, overlap, pack, Some}
+use Rattle.bits.specs.Words.{has, each, subset, pack}
+use Rattle.bits.specs.Sets.{some, overlap, Some}
 use Rattle.bits.proofs.Truth.{clash, by-truth, is-false, same-truth, and-intro, and-left, and-right, or-right, or-elim, implies-intro, implies-elim}
 use Rattle.bits.proofs.Below.{all-intro, all-elim, any-intro, any-elim}
 use Rattle.bits.proofs.Word.{has-zero, has-and, has-not, has-pack, none-in}

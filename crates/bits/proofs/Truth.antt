@@ -2,7 +2,7 @@
 use mathlib.Core.Path.{_≡_, refl, sym, ap, _∙_}
 use mathlib.Core.Bool.{Bool, true, false, not, true≢false}
 use borrow.Author.Tests.{not-true, not-false}
-use Rattle.bits.specs.Truth.{_and_, _or_, _implies_, if_then_else_}
+use Rattle.bits.specs.Words.{_and_, _or_, _implies_, if_then_else_}
 
 -- ---- truth values
 

@@ -10,8 +10,8 @@ use lib.Count.{trailingZeros, under, trailing-of-zero}
 use lib.Bits.{bitAnd, and-self, and-block, and-mask, or-shifted, and-shifted}
 use lib.Pow.{pow-pos, pow-lt}
 use borrow.Author.Tests.{eq-eqb, ne-eqb, eqb-true, eqb-false}
-use Rattle.bits.specs.Truth.{_and_, _or_, if_then_else_}
-use Rattle.bits.specs.Sets.{has, any, least, pack, _with_, _without_, join, lowest, rest, each, some, IsLowest, IsRest}
+use Rattle.bits.specs.Words.{_and_, _or_, if_then_else_, has, each, pack, _with_}
+use Rattle.bits.specs.Sets.{any, least, _without_, join, lowest, rest, some, IsLowest, IsRest}
 use Rattle.bits.proofs.Truth.{clash, by-truth, is-false, same-truth, and-intro, and-left, and-right, or-left, or-right, or-elim, or-false, false-or, or-assoc, true-and, false-and}
 use Rattle.bits.proofs.Below.{least-is}
 use Rattle.bits.proofs.Word.{has-zero, has-or, has-and, has-pow, has-join, with-lt, with-elim, with-old, with-new, join-lt, without-lt, without-old, without-other, without-keeps, without-absent, same-members, pack-is}

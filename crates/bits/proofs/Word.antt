@@ -9,8 +9,8 @@ use lib.Dec.{eqb}
 use lib.Bits.{bitAnd, bitOr, and-shr, or-shr, and-step, or-step, and-le-l, or-lt}
 use lib.Pow.{pow-pos, pow-mono, mod-mod-pow, field, low, high, mod-pow-add, pow-lt, shl-exact}
 use borrow.Author.Tests.{eq-eqb, ne-eqb, eqb-true}
-use Rattle.bits.specs.Truth.{_and_, _or_}
-use Rattle.bits.specs.Sets.{has, bit, pack, _with_, _without_, join}
+use Rattle.bits.specs.Words.{_and_, _or_, has, bit, pack, _with_}
+use Rattle.bits.specs.Sets.{_without_, join}
 use Rattle.bits.proofs.Truth.{clash, by-truth, is-false, and-intro, and-left, and-right, or-left, or-right, or-elim, or-comm, and-comm, false-or, true-and}
 use Rattle.bits.proofs.Below.{below-suc}
 

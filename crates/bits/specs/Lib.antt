@@ -1,3 +1,3 @@
 -- The crate's definitions, in reading order.
-pub mod Truth
+pub mod Words
 pub mod Sets

@@ -1,11 +1,13 @@
 // Words as sets of the numbers 0 to 63.
 ghost use mathlib.Core.Path.{_≡_};
+ghost use Rattle.bits.specs.Words;
 ghost use Rattle.bits.specs.Sets;
-ghost use Rattle.bits.specs.Sets.{_with_, _without_};
+ghost use Rattle.bits.specs.Words.{_with_};
+ghost use Rattle.bits.specs.Sets.{_without_};
 
 // Whether i is a member of w; no number past 63 is.
 pub fn has(w: u64, i: usize) -> bool
-    ensures { λ r. ⌜ r ≡ Sets.has w i ⌝ }
+    ensures { λ r. ⌜ r ≡ Words.has w i ⌝ }
 {
     if 63 < i {
         return false;
@@ -35,7 +37,7 @@ pub fn without(w: u64, i: usize) -> u64
 
 // Whether every member of a is one of b.
 pub fn subset(a: u64, b: u64) -> bool
-    ensures { λ r. ⌜ r ≡ Sets.subset a b ⌝ }
+    ensures { λ r. ⌜ r ≡ Words.subset a b ⌝ }
 {
     a & !b == 0
 }

@@ -6,11 +6,13 @@ use mathlib.Core.Bool.{Bool, true, not}
 use mathlib.Core.List.{List, [], _∷_}
 use lib.Dec.{eqb}
 use lib.ListN.{length}
-use Rattle.bits.specs.Truth.{_and_, _or_, _implies_, if_then_else_}
-use Rattle.bits.specs.Sets.{has, all, any, each, some, subset, overlap, bit, pack, _with_, _without_, join, least, lowest}
-use Rattle.table.specs.State.{State, covers, authorised, mayActivate, effective, upd}
+use Rattle.bits.specs.Words.{_and_, _or_, _implies_, if_then_else_, upd, has, all, each, subset, bit, pack, _with_}
+use Rattle.bits.specs.Sets.{any, some, overlap, _without_, join, least, lowest}
+use Rattle.table.specs.State.{State}
+use Rattle.table.specs.Authority.{covers, authorised, mayActivate, effective}
 use Rattle.table.specs.Sound.{Sound}
-use Rattle.table.specs.Table.{tableLength, tabulate, encode}
+use Rattle.table.specs.Reading.{tableLength}
+use Rattle.table.specs.Table.{tabulate, encode}
 use Rattle.table.proofs.Table.{is-table}
 use Rattle.table.proofs.Tabulate.{length-tabulate}
 use Rattle.sound.specs.Answers.{isSound, openingsFit, sessionsFit, pairFits}

@@ -1,13 +1,7 @@
 -- The starred bench cases of 01, A to I, as a single table, and the claim that every row of it is met in sequence.
-use Prim.Native.Nat.{ℕ}
-use mathlib.Core.Path.{_≡_}
-use mathlib.Core.Bool.{Bool, true, not}
-use mathlib.Core.List.{List, [], _∷_}
-use lib.Dec.{eqb}
-use lib.ListN.{length}
-use Rattle.bits.specs.Truth.{_implies_, if_then_else_}
-use Rattle.bits.specs.Sets.{all}
-use Rattle.table.specs.Table.{tableLength, tabulate}
+use Rattle.bits.specs.Words.{ℕ, _≡_, Bool, true, not, List, [], _∷_, eqb, length, _implies_, if_then_else_, all}
+use Rattle.table.specs.Reading.{tableLength}
+use Rattle.table.specs.Table.{tabulate}
 use Rattle.roles.specs.Request.{Ask, ask}
 use Rattle.roles.specs.Guard.{roleStep}
 use Rattle.setup.specs.SetUp.{roleSetUp}

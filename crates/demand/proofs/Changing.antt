@@ -6,11 +6,12 @@ use mathlib.Core.Bool.{Bool, true, false, not}
 use native.Mathlib.Omega.{arith}
 use lib.Dec.{eqb, ltb}
 use borrow.Author.Tests.{eq-eqb, ne-eqb, eqb-true, eqb-false, lt-ltb}
-use Rattle.bits.specs.Truth.{_and_, if_then_else_}
-use Rattle.bits.specs.Sets.{has, pack, _with_, _without_}
+use Rattle.bits.specs.Words.{_and_, if_then_else_, upd, has, pack, _with_}
+use Rattle.bits.specs.Sets.{_without_}
 use Rattle.bits.proofs.Truth.{by-truth, same-truth, true-and, false-and, and-false, and-intro, if-true, if-false, false-or, not-intro}
 use Rattle.bits.proofs.Word.{has-with, has-without, pack-is, pack-cong, pack-none, with-lt, without-lt, same-members, with-elim, with-new, with-old, without-old, without-other, without-keeps}
-use Rattle.table.specs.State.{State, upd, withAssigned, withHolds}
+use Rattle.table.specs.State.{State}
+use Rattle.table.specs.Changes.{withAssigned, withHolds}
 use Rattle.table.proofs.Agree.{Agree, by-upd, upd-same, upd-other, upd-own, grid-same}
 use Rattle.machine.specs.Machine.{Machine, Seat, withHeld, withSeat, withClearance}
 use Rattle.image.specs.Image.{clearedRoles, seatOwner, seatRoles, shown}

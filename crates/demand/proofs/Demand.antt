@@ -6,39 +6,33 @@ use mathlib.Core.List.{List, [], _∷_}
 use lib.ListN.{getD}
 use Rattle.roles.specs.Request.{Ask, Outcome}
 use Rattle.machine.specs.Label.{dominates}
-use Rattle.machine.specs.Machine.{Machine, step}
-use Rattle.machine.specs.Wall.{Event, trace, Carried}
+use Rattle.machine.specs.Machine.{Machine, step, begin}
+use Rattle.machine.specs.Wall.{Event, trace, final, Carried}
 use Rattle.machine.proofs.Wall.{walled}
 use Rattle.image.specs.Image.{image}
-use Rattle.image.specs.SetUp.{begin, labelSetUp}
+use Rattle.image.specs.SetUp.{labelSetUp}
 use Rattle.image.proofs.Beginning.{passed, accepted, begin-ranged, begin-safe}
 use Rattle.labels.specs.Guard.{labelStep}
-use Rattle.demand.specs.Demand.{Reply, replies, final, Simulates, Demand3}
+use Rattle.demand.specs.Demand.{Simulates, Demand3}
 use Rattle.demand.proofs.Deciding.{pictured}
 use Rattle.demand.proofs.Simulation.{Good, one-step, next-good}
 
 -- ---- from any good state on, with either of the two label guards
 
 module _ (guard : List ℕ → Ask → Outcome (List ℕ)) (same : (m : Machine) → Good m → (q : Ask) → guard (image m) q ≡ pictured (step m q)) where
-  pub replies-agree : (qs : List Ask) (m : Machine) → Good m → replies guard (image m) qs ≡ replies step m qs
-  unfolding replies pictured
-  replies-agree [] m g = refl
-  replies-agree (q ∷ qs) m g =
-      ap (λ (o : Outcome (List ℕ)). record { answer = o .answer; spent = o .spent } ∷ replies guard (o .state) qs) (same m g q)
-      ∙ ap (λ (l : List Reply). record { answer = step m q .answer; spent = step m q .spent } ∷ l) (replies-agree qs (step m q .state) (next-good m g q))
+  pub trace-agrees : (qs : List Ask) (m : Machine) → Good m → trace guard (image m) qs ≡ trace step m qs
+  unfolding trace pictured
+  trace-agrees [] m g = refl
+  trace-agrees (q ∷ qs) m g =
+      ap (λ (o : Outcome (List ℕ)). record { asked = q; answer = o .answer; spent = o .spent } ∷ trace guard (o .state) qs) (same m g q)
+      ∙ ap (λ (l : List Event). record { asked = q; answer = step m q .answer; spent = step m q .spent } ∷ l)
+      (trace-agrees qs (step m q .state) (next-good m g q))
 
   pub final-agrees : (qs : List Ask) (m : Machine) → Good m → final guard (image m) qs ≡ image (final step m qs)
   unfolding final pictured
   final-agrees [] m g = refl
   final-agrees (q ∷ qs) m g =
       ap (λ (o : Outcome (List ℕ)). final guard (o .state) qs) (same m g q) ∙ final-agrees qs (step m q .state) (next-good m g q)
-
-trace-agrees : (qs : List Ask) (m : Machine) → Good m → trace labelStep (image m) qs ≡ trace step m qs
-unfolding trace pictured
-trace-agrees [] m g = refl
-trace-agrees (q ∷ qs) m g =
-    ap (λ (o : Outcome (List ℕ)). record { asked = q; answer = o .answer } ∷ trace labelStep (o .state) qs) (one-step m g q)
-    ∙ ap (λ (l : List Event). record { asked = q; answer = step m q .answer } ∷ l) (trace-agrees qs (step m q .state) (next-good m g q))
 
 -- ---- after an accepted set-up
 
@@ -62,7 +56,7 @@ demand-3 t clearances labels a qs =
     let g = begin-good t clearances labels a in
     let m = begin clearances labels in
     subst (λ (l : List ℕ). Simulates l clearances labels qs) (sym (begin-table t clearances labels a)) (record {
-      same-replies = replies-agree labelStep one-step qs m g;
+      same-trace = trace-agrees labelStep one-step qs m g;
       same-state = final-agrees labelStep one-step qs m g;
-      walled = λ c d k. wall clearances labels qs c d (subst (λ (es : List Event). Carried es c d) (trace-agrees qs m g) k);
+      walled = λ c d k. wall clearances labels qs c d (subst (λ (es : List Event). Carried es c d) (trace-agrees labelStep one-step qs m g) k);
     })

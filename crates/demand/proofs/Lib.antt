@@ -1,8 +1,12 @@
 -- The crate's laws, in reading order.
 pub mod Deciding
 pub mod Changing
+pub mod Single
+pub mod Starting
+pub mod Reclearing
 pub mod Simulation
 pub mod Demand
+pub mod Toward
 pub mod Reaching
 pub mod Listing
 pub mod Running

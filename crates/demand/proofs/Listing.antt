@@ -11,8 +11,8 @@ use Rattle.bits.proofs.Truth.{by-truth, if-true, if-false}
 use Rattle.table.specs.Table.{tabulate}
 use Rattle.table.proofs.Tabulate.{length-tabulate, tabulate-cong}
 use Rattle.roles.specs.Request.{Ask, Outcome, refuse}
+use Rattle.machine.specs.Wall.{trace, final}
 use Rattle.labels.specs.Guard.{imageStep}
-use Rattle.demand.specs.Demand.{Reply, replies, final}
 use Rattle.demand.specs.Run.{askAt, serveAt, asks, flat}
 
 -- ---- the requests from place i on
@@ -40,8 +40,8 @@ module _ (words : List ℕ) where
   from-end i h = ap (λ (k : ℕ). tabulate k (λ j. askAt words (i + j))) (let z : n - i ≡ 0 = omega arith in z)
 
 -- two words for each reply
-flat-length : (guard : List ℕ → Ask → Outcome (List ℕ)) (qs : List Ask) (t : List ℕ) → length (flat (replies guard t qs)) ≡ 2 * length qs
-unfolding flat replies
+flat-length : (guard : List ℕ → Ask → Outcome (List ℕ)) (qs : List Ask) (t : List ℕ) → length (flat (trace guard t qs)) ≡ 2 * length qs
+unfolding flat trace
 flat-length guard [] t = refl
 flat-length guard (q ∷ qs) t = let e = flat-length guard qs (guard t q .state) in omega arith
 
@@ -50,7 +50,7 @@ flat-length guard (q ∷ qs) t = let e = flat-length guard qs (guard t q .state)
 module _ (guard : List ℕ → Ask → Outcome (List ℕ)) (words t₀ : List ℕ) where
   -- the words of all replies
   abbrev whole : List ℕ
-  whole = flat (replies guard t₀ (asks words))
+  whole = flat (trace guard t₀ (asks words))
 
   whole-length : length whole ≡ 2 * (length words / 4)
   unfolding asks
@@ -61,7 +61,7 @@ module _ (guard : List ℕ → Ask → Outcome (List ℕ)) (words t₀ : List �
     pub long : length out ≡ 2 * (length words / 4)
     pub same-length : length t ≡ length t₀
     pub written : (k : ℕ) → k < 2 * i → getD out k 0 ≡ getD whole k 0
-    pub left : (j : ℕ) → getD (flat (replies guard t (from words i))) j 0 ≡ getD whole (2 * i + j) 0
+    pub left : (j : ℕ) → getD (flat (trace guard t (from words i))) j 0 ≡ getD whole (2 * i + j) 0
     pub table : final guard t (from words i) ≡ final guard t₀ (asks words)
 
   pub serve-start : {out : List ℕ} → length out ≡ 2 * (length words / 4) → Serving t₀ out 0
@@ -70,7 +70,7 @@ module _ (guard : List ℕ → Ask → Outcome (List ℕ)) (words t₀ : List �
     long = e;
     same-length = refl;
     written = λ k h. absurd (omega arith);
-    left = λ j. ap (λ (qs : List Ask). getD (flat (replies guard t₀ qs)) j 0) (from-start words) ∙ ap (λ (k : ℕ). getD whole k 0) (omega arith);
+    left = λ j. ap (λ (qs : List Ask). getD (flat (trace guard t₀ qs)) j 0) (from-start words) ∙ ap (λ (k : ℕ). getD whole k 0) (omega arith);
     table = ap (final guard t₀) (from-start words);
   }
 
@@ -83,9 +83,9 @@ module _ (guard : List ℕ → Ask → Outcome (List ℕ)) (words t₀ : List �
     second-place a h = let e = length-set out (2 * i) a in let r = s .long in omega arith
 
     -- the words of the replies that are left: this reply's two, and the others
-    this : i < length words / 4 → flat (replies guard t (from words i)) ≡ o .answer ∷ o .spent ∷ flat (replies guard (o .state) (from words (i + 1)))
-    unfolding replies flat
-    this h = ap (λ (qs : List Ask). flat (replies guard t qs)) (from-step words i h)
+    this : i < length words / 4 → flat (trace guard t (from words i)) ≡ o .answer ∷ o .spent ∷ flat (trace guard (o .state) (from words (i + 1)))
+    unfolding trace flat
+    this h = ap (λ (qs : List Ask). flat (trace guard t qs)) (from-step words i h)
 
     after : i < length words / 4 → final guard (o .state) (from words (i + 1)) ≡ final guard t₀ (asks words)
     unfolding final
@@ -105,7 +105,7 @@ module _ (guard : List ℕ → Ask → Outcome (List ℕ)) (words t₀ : List �
       same-length = l ∙ s .same-length;
       written = written;
       left = λ j.
-          ap (λ (r : List ℕ). getD (flat (replies guard r (from words (i + 1)))) j 0) et
+          ap (λ (r : List ℕ). getD (flat (trace guard r (from words (i + 1)))) j 0) et
           ∙ sym (ap (λ (r : List ℕ). getD r (suc (suc j)) 0) (this h))
           ∙ s .left (suc (suc j))
           ∙ ap (λ (k : ℕ). getD whole k 0) (omega arith);

@@ -1,32 +1,33 @@
 -- A state is safe exactly when the machine can reach it: the claims of specs/Claims.antt. Assumes nothing.
-use Prim.Native.Nat.{ℕ, zero, suc, _<_}
+use Prim.Native.Nat.{ℕ, _<_}
 use mathlib.Core.Path.{_≡_, refl, sym, ap, ap₂, subst, _∙_}
 use mathlib.Core.Bool.{Bool, true, false}
 use mathlib.Core.List.{List, [], _∷_, _++_}
-use native.Mathlib.Omega.{arith}
 use lib.Dec.{eqb}
-use borrow.Author.Tests.{eq-eqb, eqb-true, eqb-false, lt-ltb}
-use Rattle.bits.specs.Truth.{_and_}
+use borrow.Author.Tests.{eq-eqb, eqb-true, lt-ltb}
+use Rattle.bits.specs.Words.{_and_}
 use Rattle.bits.proofs.Truth.{clash, by-truth, same-truth, if-true, if-false, and-intro, and-left, and-right}
 use Rattle.bits.proofs.Below.{all-intro}
-use Rattle.table.specs.Table.{tableLength, isTable, tabulate}
+use Rattle.table.specs.Reading.{tableLength}
+use Rattle.table.specs.Table.{isTable, tabulate}
 use Rattle.table.proofs.Agree.{by-upd, upd-same}
 use Rattle.table.proofs.Tabulate.{length-tabulate, getD-tabulate}
 use Rattle.table.proofs.Table.{is-table}
 use Rattle.sound.specs.Answers.{isSound}
 use Rattle.roles.specs.Request.{Ask, ask, Outcome}
 use Rattle.machine.specs.Label.{dominates}
-use Rattle.machine.specs.Machine.{Machine, Seat, idle, at, isIdle, mayOpen, withHeld, withSeat, step}
+use Rattle.machine.specs.Machine.{Machine, Seat, idle, at, isIdle, mayOpen, withHeld, withSeat, step, begin}
+use Rattle.machine.specs.Wall.{final}
 use Rattle.machine.proofs.Seats.{idle-at}
 use Rattle.machine.proofs.Steps.{opens, starts}
-use Rattle.image.specs.SetUp.{begin, areLabels}
+use Rattle.image.specs.SetUp.{areLabels}
 use Rattle.image.specs.Claims.{Ranged, Safe}
 use Rattle.image.proofs.Claims.{sound-image, image-means}
 use Rattle.image.proofs.Beginning.{accepted, begin-ranged, begin-safe}
-use Rattle.demand.specs.Demand.{final}
 use Rattle.demand.specs.Claims.{Same, Reachable, ReachableImage, ReachableMeans}
 use Rattle.demand.proofs.Simulation.{Good, next-good}
 use Rattle.demand.proofs.Demand.{begin-good}
+use Rattle.demand.proofs.Toward.{clearances, labels, Toward, Further, stay, through, sweep, asked, good-after}
 
 -- ---- what is reached is safe
 
@@ -54,82 +55,16 @@ module _ {m n : Machine} where
 
 -- ---- what is safe is reached: the sessions are started one after the other, and each opens what it holds
 
-final-last : (qs : List Ask) (q : Ask) (m : Machine) → final step m (qs ++ (q ∷ [])) ≡ step (final step m qs) q .state
-unfolding final
-final-last [] q m = refl
-final-last (p ∷ qs) q m = final-last qs q (step m p .state)
-
 module _ (m : Machine) (g : Ranged m) (f : Safe m) where
-  abbrev clearances : List ℕ
-  clearances = tabulate 64 (m .clearance)
-
-  abbrev labels : List ℕ
-  labels = tabulate 64 (m .label)
-
-  -- a state on the way to m: no session has another seat or other openings
-  record Toward (n : Machine) : Type 0 where
-    requests : List Ask
-    reached : final step (begin clearances labels) requests ≡ n
-    good : Good n
-    same-clearances : (u : ℕ) → u < 64 → n .clearance u ≡ m .clearance u
-    same-labels : (o : ℕ) → o < 64 → n .label o ≡ m .label o
-    seats : (s : ℕ) → s < 32 → (n .seat s ≡ idle → ⊥) → n .seat s ≡ m .seat s
-    openings : (s o x : ℕ) → s < 32 → o < 64 → x < 2 → n .held s o x ≡ true → m .held s o x ≡ true
-
-  -- what a has of m is there in b
-  record Kept (a b : Machine) : Type 0 where
-    seats : (s : ℕ) → s < 32 → a .seat s ≡ m .seat s → b .seat s ≡ m .seat s
-    openings : (s o x : ℕ) → s < 32 → o < 64 → x < 2 → a .held s o x ≡ true → b .held s o x ≡ true
-
-  -- from n on, a state of which C holds
-  record Further (n : Machine) (C : Machine → Type 0) : Type 0 where
-    next : Machine
-    toward : Toward next
-    kept : Kept n next
-    has : C next
-
-  stay : {C : Machine → Type 0} {n : Machine} → Toward n → C n → Further n C
-  stay {C} {n} t c = record { next = n; toward = t; kept = record { seats = λ s h e. e; openings = λ s o x hs ho hx e. e }; has = c }
-
-  through : {a b c : Machine} → Kept a b → Kept b c → Kept a c
-  through k l = record {
-    seats = λ s h e. l .seats s h (k .seats s h e);
-    openings = λ s o x hs ho hx e. l .openings s o x hs ho hx (k .openings s o x hs ho hx e);
-  }
-
-  -- what can be had of each number below top, and is kept, can be had of all
-  sweep : (C : ℕ → Machine → Type 0) (top : ℕ) → ((i : ℕ) → i < top → (a b : Machine) → Kept a b → C i a → C i b)
-      → (base : Machine) → ((i : ℕ) → i < top → (n : Machine) → Toward n → Kept base n → Further n (C i))
-      → Toward base → Further base (λ n. (i : ℕ) → i < top → C i n)
-  sweep C zero k base w t = stay t (λ i h. absurd (omega arith))
-  sweep C (suc top) k base w t =
-      let a = sweep C top (λ i h. k i (omega arith)) base (λ i h. w i (omega arith)) t in
-      let b = w top (omega arith) (a .next) (a .toward) (a .kept) in
-      record {
-        next = b .next;
-        toward = b .toward;
-        kept = through (a .kept) (b .kept);
-        has = λ i h. by-truth (eqb i top)
-            (λ e. subst (λ (j : ℕ). C j (b .next)) (sym (eqb-true i top e)) (b .has))
-            (λ e. let n = eqb-false i top e in k i (omega arith) (a .next) (b .next) (b .kept) (a .has i (omega arith)));
-      }
-
-  -- one more request
-  asked : {n k : Machine} (t : Toward n) (q : Ask) → step n q .state ≡ k → final step (begin clearances labels) (t .requests ++ (q ∷ [])) ≡ k
-  asked t q e = final-last (t .requests) q (begin clearances labels) ∙ ap (λ (n : Machine). step n q .state) (t .reached) ∙ e
-
-  good-after : {n k : Machine} → Toward n → (q : Ask) → step n q .state ≡ k → Good k
-  good-after {n} t q e = subst Good e (next-good n (t .good) q)
-
   -- session s opens o in mode x
-  module _ (s o x : ℕ) (hs : s < 32) (ho : o < 64) (hx : x < 2) (n : Machine) (t : Toward n) (e : n .seat s ≡ m .seat s) where
-    open-held : m .held s o x ≡ true → Further n (λ k. m .held s o x ≡ true → k .held s o x ≡ true)
+  module _ (s o x : ℕ) (hs : s < 32) (ho : o < 64) (hx : x < 2) (n : Machine) (t : Toward m n) (e : n .seat s ≡ m .seat s) where
+    open-held : m .held s o x ≡ true → Further m n (λ k. m .held s o x ≡ true → k .held s o x ≡ true)
     open-held h = record {
       next = withHeld n s o x true;
       toward = record {
         requests = t .requests ++ (ask 1 s o x ∷ []);
-        reached = asked t (ask 1 s o x) opened;
-        good = good-after t (ask 1 s o x) opened;
+        reached = asked m t (ask 1 s o x) opened;
+        good = good-after m t (ask 1 s o x) opened;
         same-clearances = t .same-clearances;
         same-labels = t .same-labels;
         seats = t .seats;
@@ -155,18 +90,18 @@ module _ (m : Machine) (g : Ranged m) (f : Safe m) where
         here p q y b z =
             rw (eqb-true p s (and-left _ _ b), eqb-true q o (and-left _ _ (and-right (eqb p s) _ b)), eqb-true y x (and-right (eqb q o) _ (and-right (eqb p s) _ b))) z
 
-    open-one : Further n (λ k. m .held s o x ≡ true → k .held s o x ≡ true)
-    open-one = by-truth (m .held s o x) open-held (λ h. stay t (λ z. clash z h))
+    open-one : Further m n (λ k. m .held s o x ≡ true → k .held s o x ≡ true)
+    open-one = by-truth (m .held s o x) open-held (λ h. stay m t (λ z. clash z h))
 
   -- session s is started where it is not idle in m
-  module _ (s : ℕ) (hs : s < 32) (n : Machine) (t : Toward n) where
-    start-at : (u y : ℕ) → m .seat s ≡ at u y → n .seat s ≡ idle → Further n (λ k. k .seat s ≡ m .seat s)
+  module _ (s : ℕ) (hs : s < 32) (n : Machine) (t : Toward m n) where
+    start-at : (u y : ℕ) → m .seat s ≡ at u y → n .seat s ≡ idle → Further m n (λ k. k .seat s ≡ m .seat s)
     start-at u y e i = record {
       next = withSeat n s (at u y);
       toward = record {
         requests = t .requests ++ (ask 3 s u y ∷ []);
-        reached = asked t (ask 3 s u y) started;
-        good = good-after t (ask 3 s u y) started;
+        reached = asked m t (ask 3 s u y) started;
+        good = good-after m t (ask 3 s u y) started;
         same-clearances = t .same-clearances;
         same-labels = t .same-labels;
         seats = λ p h. by-upd (n .seat) s (at u y) (λ (k : Seat). (k ≡ idle → ⊥) → k ≡ m .seat p) p
@@ -196,9 +131,9 @@ module _ (m : Machine) (g : Ranged m) (f : Safe m) where
             clash (t .good .safe .openings p o x hp ho hx z)
             (ap (λ (k : Seat). mayOpen k (n .label o) x) (ap (n .seat) q ∙ i) ∙ unfold mayOpen in refl)
 
-    start-one : (j k : Seat) → n .seat s ≡ j → m .seat s ≡ k → Further n (λ a. a .seat s ≡ m .seat s)
-    start-one (at u y) k d e = stay t (t .seats s hs (λ z. idle-at u y (sym z ∙ d)))
-    start-one idle idle d e = stay t (d ∙ sym e)
+    start-one : (j k : Seat) → n .seat s ≡ j → m .seat s ≡ k → Further m n (λ a. a .seat s ≡ m .seat s)
+    start-one (at u y) k d e = stay m t (t .seats s hs (λ z. idle-at u y (sym z ∙ d)))
+    start-one idle idle d e = stay m t (d ∙ sym e)
     start-one idle (at u y) d e = start-at u y e d
 
   abbrev Holds : ℕ → ℕ → ℕ → Machine → Type 0
@@ -212,26 +147,26 @@ module _ (m : Machine) (g : Ranged m) (f : Safe m) where
     openings : (o : ℕ) → o < 64 → HoldsAll s o n
 
   -- session s opens all that it holds in m
-  open-all : (s : ℕ) → s < 32 → (n : Machine) → n .seat s ≡ m .seat s → Toward n → Further n (λ k. (o : ℕ) → o < 64 → HoldsAll s o k)
+  open-all : (s : ℕ) → s < 32 → (n : Machine) → n .seat s ≡ m .seat s → Toward m n → Further m n (λ k. (o : ℕ) → o < 64 → HoldsAll s o k)
   open-all s hs n e =
-      sweep (HoldsAll s) 64 (λ o ho a b k w x hx h. k .openings s o x hs ho hx (w x hx h)) n (λ o ho a t k.
-      sweep (Holds s o) 2 (λ x hx a b k w h. k .openings s o x hs ho hx (w h)) a (λ x hx b t l.
+      sweep m (HoldsAll s) 64 (λ o ho a b k w x hx h. k .openings s o x hs ho hx (w x hx h)) n (λ o ho a t k.
+      sweep m (Holds s o) 2 (λ x hx a b k w h. k .openings s o x hs ho hx (w h)) a (λ x hx b t l.
       open-one s o x hs ho hx b t (l .seats s hs (k .seats s hs e))) t)
 
-  serve-one : (s : ℕ) → s < 32 → (n : Machine) → Toward n → Further n (Session s)
+  serve-one : (s : ℕ) → s < 32 → (n : Machine) → Toward m n → Further m n (Session s)
   serve-one s hs n t =
       let a = start-one s hs n t (n .seat s) (m .seat s) refl refl in
       let b = open-all s hs (a .next) (a .has) (a .toward) in
       record {
         next = b .next;
         toward = b .toward;
-        kept = through (a .kept) (b .kept);
+        kept = through m (a .kept) (b .kept);
         has = record { seat = b .kept .seats s hs (a .has); openings = b .has };
       }
 
-  serve-all : (n : Machine) → Toward n → Further n (λ k. (s : ℕ) → s < 32 → Session s k)
+  serve-all : (n : Machine) → Toward m n → Further m n (λ k. (s : ℕ) → s < 32 → Session s k)
   serve-all n =
-      sweep Session 32 (λ s hs a b k w. record {
+      sweep m Session 32 (λ s hs a b k w. record {
         seat = k .seats s hs (w .seat);
         openings = λ o ho x hx h. k .openings s o x hs ho hx (w .openings o ho x hx h);
       }) n (λ s hs k t l. serve-one s hs k t)
@@ -240,14 +175,14 @@ module _ (m : Machine) (g : Ranged m) (f : Safe m) where
   unfolding areLabels
   are-labels v h = all-intro _ 64 (λ i l. lt-ltb _ 32 (subst (λ (n : ℕ). n < 32) (sym (getD-tabulate 64 v 0 i l)) (h i l)))
 
-  begins : Toward (begin clearances labels)
+  begins : Toward m (begin (clearances m) (labels m))
   unfolding begin final
   begins = record {
     requests = [];
     reached = refl;
     good = record {
-      ranged = begin-ranged clearances labels (are-labels (m .clearance) (g .clearances)) (are-labels (m .label) (g .labels));
-      safe = begin-safe clearances labels;
+      ranged = begin-ranged (clearances m) (labels m) (are-labels (m .clearance) (g .clearances)) (are-labels (m .label) (g .labels));
+      safe = begin-safe (clearances m) (labels m);
     };
     same-clearances = getD-tabulate 64 (m .clearance) 0;
     same-labels = getD-tabulate 64 (m .label) 0;
@@ -257,12 +192,12 @@ module _ (m : Machine) (g : Ranged m) (f : Safe m) where
 
   safe-reached : Reachable m
   safe-reached =
-      let a = serve-all (begin clearances labels) begins in
+      let a = serve-all (begin (clearances m) (labels m)) begins in
       let t = a .toward in
       record {
-        clearances = clearances;
-        labels = labels;
-        accepted = λ t i. ap (λ (o : Outcome (List ℕ)). o .answer) (accepted t clearances labels (record {
+        clearances = clearances m;
+        labels = labels m;
+        accepted = λ t i. ap (λ (o : Outcome (List ℕ)). o .answer) (accepted t (clearances m) (labels m) (record {
           table = i;
           long-clearances = length-tabulate 64 (m .clearance);
           long-labels = length-tabulate 64 (m .label);

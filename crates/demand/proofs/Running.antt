@@ -9,15 +9,15 @@ use borrow.Author.Tests.{eq-eqb, ne-eqb}
 use Rattle.bits.proofs.Truth.{past, stopped, and-intro, false-and, and-false}
 use Rattle.table.specs.Table.{isTable}
 use Rattle.roles.specs.Request.{Outcome}
-use Rattle.machine.specs.Machine.{step}
+use Rattle.machine.specs.Machine.{step, begin}
+use Rattle.machine.specs.Wall.{trace, final}
 use Rattle.image.specs.Image.{image}
-use Rattle.image.specs.SetUp.{begin, labelSetUp}
+use Rattle.image.specs.SetUp.{labelSetUp}
 use Rattle.image.proofs.Beginning.{set-up-refused}
 use Rattle.labels.specs.Guard.{imageStep}
-use Rattle.demand.specs.Demand.{replies, final}
 use Rattle.demand.specs.Run.{asks, flat, paired, Left, kept, machineRun}
 use Rattle.demand.proofs.Simulation.{one-step-served}
-use Rattle.demand.proofs.Demand.{replies-agree, final-agrees, begin-good, begin-table}
+use Rattle.demand.proofs.Demand.{trace-agrees, final-agrees, begin-good, begin-table}
 
 -- the three clauses of a contract
 pub three : {n : ℕ} {t out : List ℕ} {l : Left} → l ≡ kept n t out → (n ≡ l .answer) × ((t ≡ l .table) × (out ≡ l .replies))
@@ -60,7 +60,7 @@ module _ (t clearances labels words old : List ℕ) where
   pub run-accepted : isTable t ≡ true → paired words old ≡ true → labelSetUp t clearances labels .answer ≡ 1
       → outcome
       ≡ kept 1 (final imageStep (labelSetUp t clearances labels .state) (asks words))
-      (flat (replies imageStep (labelSetUp t clearances labels .state) (asks words)))
+      (flat (trace imageStep (labelSetUp t clearances labels .state) (asks words)))
   unfolding machineRun
   run-accepted i p a =
       let g = begin-good t clearances labels a in
@@ -69,4 +69,4 @@ module _ (t clearances labels words old : List ℕ) where
       past _ _ i ∙ past _ _ p ∙ past _ _ (eq-eqb _ 1 a)
       ∙ ap₂ (kept 1)
       (sym (ap (λ (l : List ℕ). final imageStep l (asks words)) z ∙ final-agrees imageStep one-step-served (asks words) m g))
-      (sym (ap (λ (l : List ℕ). flat (replies imageStep l (asks words))) z ∙ ap flat (replies-agree imageStep one-step-served (asks words) m g)))
+      (sym (ap (λ (l : List ℕ). flat (trace imageStep l (asks words))) z ∙ ap flat (trace-agrees imageStep one-step-served (asks words) m g)))

@@ -1,17 +1,16 @@
 -- What is claimed of the states that the machine reaches, each as the answer to a question. proofs/Reaching.antt proves them.
-use Prim.Native.Nat.{ℕ, _^_, _<_}
-use mathlib.Core.Path.{_≡_}
-use mathlib.Core.Bool.{true}
-use mathlib.Core.List.{List}
 use mathlib.Core.Logic.{_↔_}
-use Rattle.table.specs.Table.{isTable, word, state}
+use Rattle.bits.specs.Words.{ℕ, _^_, _<_, _≡_, true, List}
+use Rattle.table.specs.Table.{isTable}
+use Rattle.table.specs.Reading.{word, state}
 use Rattle.sound.specs.Answers.{isSound}
 use Rattle.roles.specs.Request.{Ask}
-use Rattle.machine.specs.Machine.{Machine, step}
-use Rattle.image.specs.Image.{image, isImage}
-use Rattle.image.specs.SetUp.{begin, labelSetUp}
+use Rattle.machine.specs.Machine.{Machine, step, begin}
+use Rattle.machine.specs.Wall.{final}
+use Rattle.image.specs.Image.{image}
+use Rattle.image.specs.Test.{isImage}
+use Rattle.image.specs.SetUp.{labelSetUp}
 use Rattle.image.specs.Claims.{Ranged}
-use Rattle.demand.specs.Demand.{final}
 
 -- two machine states have the same clearances, labels, seats and openings
 pub record Same (m n : Machine) : Type 0 where

@@ -1,35 +1,17 @@
 -- Demand 3 of 01, one claim about a whole list of label requests after an accepted label set-up.
-use Prim.Native.Nat.{ℕ}
-use mathlib.Core.Path.{_≡_}
-use mathlib.Core.Bool.{true}
-use mathlib.Core.List.{List, [], _∷_}
-use lib.ListN.{getD}
-use Rattle.roles.specs.Request.{Ask, Outcome}
+use Rattle.bits.specs.Words.{ℕ, _≡_, true, List, getD}
+use Rattle.roles.specs.Request.{Ask}
 use Rattle.machine.specs.Label.{dominates}
-use Rattle.machine.specs.Machine.{step}
-use Rattle.machine.specs.Wall.{trace, Carried}
+use Rattle.machine.specs.Machine.{begin, step}
+use Rattle.machine.specs.Wall.{trace, final, Carried}
 use Rattle.image.specs.Image.{image}
-use Rattle.image.specs.SetUp.{begin, labelSetUp}
+use Rattle.image.specs.SetUp.{labelSetUp}
 use Rattle.labels.specs.Guard.{labelStep}
-
--- an answer and its figure
-pub record Reply : Type 0 where
-  pub answer : ℕ
-  pub spent : ℕ
-
--- the replies to a list of requests, one after the other, and the state after the last
-unfoldable pub replies : {S : Type 0} → (S → Ask → Outcome S) → S → List Ask → List Reply
-replies f s [] = []
-replies f s (q ∷ qs) = record { answer = f s q .answer; spent = f s q .spent } ∷ replies f (f s q .state) qs
-
-unfoldable pub final : {S : Type 0} → (S → Ask → Outcome S) → S → List Ask → S
-final f s [] = s
-final f s (q ∷ qs) = final f (f s q .state) qs
 
 -- what is claimed of the guard on the table t after a set-up with these clearances and labels
 pub record Simulates (t clearances labels : List ℕ) (qs : List Ask) : Type 0 where
   -- its answers and spent figures are the machine's
-  pub same-replies : replies labelStep t qs ≡ replies step (begin clearances labels) qs
+  pub same-trace : trace labelStep t qs ≡ trace step (begin clearances labels) qs
   -- its table after them is the image of the machine's state after them
   pub same-state : final labelStep t qs ≡ image (final step (begin clearances labels) qs)
   -- along its own trace no column is carried into one whose label does not dominate the first

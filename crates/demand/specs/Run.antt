@@ -1,18 +1,13 @@
 -- A label set-up and a list of label requests in one call. The requests are lent as words, four each: code and three
 -- arguments; the replies go into lent words, two each: answer and figure.
-use Prim.Native.Nat.{ℕ, _+_, _*_, _/_, _%_}
-use mathlib.Core.Bool.{Bool, not}
-use mathlib.Core.List.{List, [], _∷_}
-use lib.Dec.{eqb, leb}
-use lib.ListN.{length, getD}
-use Rattle.bits.specs.Truth.{_and_, if_then_else_}
+use Rattle.bits.specs.Words.{ℕ, _+_, _*_, _/_, _%_, Bool, not, List, [], _∷_, eqb, leb, length, getD, _and_, if_then_else_}
 use Rattle.table.specs.Table.{isTable, tabulate}
 use Rattle.roles.specs.Request.{Ask, ask, Outcome, refuse}
-use Rattle.machine.specs.Machine.{step}
+use Rattle.machine.specs.Machine.{step, begin}
+use Rattle.machine.specs.Wall.{Event, trace, final}
 use Rattle.image.specs.Image.{image}
-use Rattle.image.specs.SetUp.{begin, labelSetUp}
+use Rattle.image.specs.SetUp.{labelSetUp}
 use Rattle.labels.specs.Guard.{imageStep}
-use Rattle.demand.specs.Demand.{Reply, replies, final}
 
 -- the request at place i of the words
 unfoldable pub askAt : List ℕ → ℕ → Ask
@@ -25,10 +20,10 @@ serveAt t words i = if leb (length words / 4) i then refuse 18 t else imageStep 
 unfoldable pub asks : List ℕ → List Ask
 asks words = tabulate (length words / 4) (askAt words)
 
--- the words of replies
-unfoldable pub flat : List Reply → List ℕ
+-- the words of the replies: answer and figure of each event
+unfoldable pub flat : List Event → List ℕ
 flat [] = []
-flat (r ∷ rs) = r .answer ∷ r .spent ∷ flat rs
+flat (e ∷ es) = e .answer ∷ e .spent ∷ flat es
 
 -- four words for each request, and two for its reply
 unfoldable pub paired : List ℕ → List ℕ → Bool
@@ -49,4 +44,4 @@ machineRun t clearances labels words old =
     if not (isTable t) then kept 12 t old else
     if not (paired words old) then kept 18 t old else
     if not (eqb (labelSetUp t clearances labels .answer) 1) then kept (labelSetUp t clearances labels .answer) t old else
-    kept 1 (image (final step (begin clearances labels) (asks words))) (flat (replies step (begin clearances labels) (asks words)))
+    kept 1 (image (final step (begin clearances labels) (asks words))) (flat (trace step (begin clearances labels) (asks words)))

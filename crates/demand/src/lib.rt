@@ -7,8 +7,8 @@ ghost use mathlib.Core.Path.{_≡_};
 ghost use Prim.Native.Nat.{_*_, _/_};
 ghost use lib.ListN.{length};
 ghost use Rattle.roles.specs.Answer.{numberOf};
+ghost use Rattle.machine.specs.Wall.{trace, final};
 ghost use Rattle.labels.specs.Guard.{imageStep};
-ghost use Rattle.demand.specs.Demand;
 ghost use Rattle.demand.specs.Run.{serveAt, asks, flat, machineRun};
 
 // The label request at place i of a list of words, four words each, on a table that is known to be a sound image; 18 past the
@@ -32,8 +32,8 @@ pub fn serve_at(t: &mut [u64], words: &[u64], i: usize) -> LabelAnswer
 // All label requests of a list of words in order; the replies two words each.
 fn serve_all(t: &mut [u64], words: &[u64], replies: &mut [u64])
     requires { ⌜ length (now replies) ≡ 2 * (length (now words) / 4) ⌝ }
-    ensures table { λ r. ⌜ now (t .exit) ≡ Demand.final imageStep (now (t .entry)) (asks (now (words .entry))) ⌝ }
-    ensures replies { λ r. ⌜ now (replies .exit) ≡ flat (Demand.replies imageStep (now (t .entry)) (asks (now (words .entry)))) ⌝ }
+    ensures table { λ r. ⌜ now (t .exit) ≡ final imageStep (now (t .entry)) (asks (now (words .entry))) ⌝ }
+    ensures replies { λ r. ⌜ now (replies .exit) ≡ flat (trace imageStep (now (t .entry)) (asks (now (words .entry)))) ⌝ }
 {
     for i in 0..words.len() / 4 {
         let r = serve_at(t, words, i);

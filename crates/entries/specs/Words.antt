@@ -1,7 +1,5 @@
 -- The words of each mode with their numbers of fields, and where a line may stand: refusals 10 and 11 of 01.
-use Prim.Native.Nat.{ℕ}
-use lib.Dec.{eqb}
-use Rattle.bits.specs.Truth.{if_then_else_}
+use Rattle.bits.specs.Words.{ℕ, eqb, if_then_else_}
 use Rattle.lines.specs.declared.Word.{Word}
 use Rattle.lines.specs.declared.Word.the-variants.{Roles, Lattice, Above, Permit, Clear, Label, Run, Open, Close, Start, End, Activate, Drop, Assign, Deassign, Grant, Revoke, Reclear}
 use Rattle.lines.specs.declared.Fields.{Fields}

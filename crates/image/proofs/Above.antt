@@ -6,7 +6,7 @@ use mathlib.Core.Bool.{true}
 use native.Mathlib.Omega.{arith}
 use lib.Dec.{ltb, leb}
 use borrow.Author.Tests.{ltb-true, ltb-false, leb-true, lt-ltb, le-ltb, le-leb}
-use Rattle.bits.specs.Truth.{_and_}
+use Rattle.bits.specs.Words.{_and_}
 use Rattle.bits.proofs.Truth.{by-truth, and-intro, and-left, and-right, if-true, if-false}
 use Rattle.machine.specs.Label.{dominates}
 use Rattle.machine.proofs.Order.{dominates-refl, dominates-trans, dominates-antisym}

@@ -6,12 +6,13 @@ use mathlib.Core.List.{List}
 use lib.Dec.{eqb}
 use lib.ListN.{length}
 use borrow.Author.Tests.{eq-eqb}
-use Rattle.bits.specs.Truth.{_and_}
+use Rattle.bits.specs.Words.{_and_}
 use Rattle.bits.proofs.Truth.{past, stopped, and-intro}
 use Rattle.table.specs.Table.{isTable}
 use Rattle.roles.specs.Request.{refuse, accept}
 use Rattle.image.specs.Image.{image}
-use Rattle.image.specs.SetUp.{begin, areLabels, labelSetUp}
+use Rattle.machine.specs.Machine.{begin}
+use Rattle.image.specs.SetUp.{areLabels, labelSetUp}
 
 module _ (t clearances labels : List ℕ) where
   pub set-up-short : isTable t ≡ false → labelSetUp t clearances labels ≡ refuse 12 t

@@ -7,7 +7,7 @@ use native.Mathlib.Omega.{arith}
 use lib.Dec.{eqb}
 use lib.ListN.{length}
 use borrow.Author.Tests.{eqb-true, ltb-true}
-use Rattle.bits.specs.Truth.{_and_}
+use Rattle.bits.specs.Words.{_and_}
 use Rattle.bits.proofs.Truth.{clash, by-truth, and-left, and-right}
 use Rattle.bits.proofs.Below.{all-elim}
 use Rattle.table.specs.Table.{isTable}
@@ -17,7 +17,8 @@ use Rattle.roles.specs.Request.{Outcome, refuse, accept}
 use Rattle.roles.proofs.Requests.{refuse-is, accept-is}
 use Rattle.machine.proofs.Seats.{idle-at}
 use Rattle.image.specs.Image.{image}
-use Rattle.image.specs.SetUp.{begin, areLabels, labelSetUp}
+use Rattle.machine.specs.Machine.{begin}
+use Rattle.image.specs.SetUp.{areLabels, labelSetUp}
 use Rattle.image.specs.Claims.{Ranged, Safe, SetUpSound, SetUpRefused, OldContents}
 use Rattle.image.proofs.Accepting.{set-up-short, set-up-lists, set-up-values, set-up-accepted}
 use Rattle.image.proofs.Claims.{sound-image}

@@ -8,14 +8,15 @@ use native.Mathlib.Omega.{arith}
 use lib.Dec.{eqb, ltb}
 use lib.ListN.{length, getD}
 use borrow.Author.Tests.{eq-eqb, eqb-true, ltb-true, ltb-false, lt-ltb, le-ltb}
-use Rattle.bits.specs.Truth.{_and_}
-use Rattle.bits.specs.Sets.{has, all, pack}
+use Rattle.bits.specs.Words.{_and_, has, all, pack}
 use Rattle.bits.proofs.Truth.{clash, by-truth, is-false, and-intro, and-left, and-right, true-and, false-and}
 use Rattle.bits.proofs.Below.{all-intro, all-elim}
 use Rattle.bits.proofs.Word.{has-pack, pack-is, none-in}
-use Rattle.table.specs.State.{State, permission, effective}
+use Rattle.table.specs.State.{State}
+use Rattle.table.specs.Authority.{permission, effective}
 use Rattle.table.specs.Sound.{Sound}
-use Rattle.table.specs.Table.{tableLength, isTable, word, state}
+use Rattle.table.specs.Reading.{tableLength, word, state}
+use Rattle.table.specs.Table.{isTable}
 use Rattle.table.proofs.Agree.{Agree}
 use Rattle.table.proofs.Encode.{shown, state-encode}
 use Rattle.table.proofs.State.{effective-elim}
@@ -26,7 +27,8 @@ use Rattle.sound.proofs.Answers.{sound-state, sound-table}
 use Rattle.roles.proofs.Requests.{encode-sound, sound-encode}
 use Rattle.machine.specs.Machine.{Machine, Seat, at}
 use Rattle.image.specs.Image as image
-use Rattle.image.specs.Image.{above, clearedRoles, seatRoles, seatOwner, grantedRoles, permittedObjects, labelOf, seatOf, machineOf, seniorityFits, permissionsFit, usersFit, objectsFit, levelsFit, isImage}
+use Rattle.image.specs.Image.{above, clearedRoles, seatRoles, seatOwner, grantedRoles, permittedObjects}
+use Rattle.image.specs.Test.{labelOf, seatOf, machineOf, seniorityFits, permissionsFit, usersFit, objectsFit, levelsFit, isImage}
 use Rattle.image.specs.Claims.{Ranged, Safe, SoundImage, Imaged, ImageMeans}
 use Rattle.image.proofs.Reading.{label-below, label-cleared, label-granted, owner-of, seat-read, seat-back}
 use Rattle.image.proofs.Shown.{safe-sound, sound-safe, shown-juniors, owner-is, active-is, granted-is, assigned-is}

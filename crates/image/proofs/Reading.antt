@@ -5,15 +5,17 @@ use mathlib.Core.Bool.{true, false}
 use mathlib.Core.List.{List}
 use native.Mathlib.Omega.{arith}
 use lib.ListN.{length}
-use Rattle.bits.specs.Sets.{has, lowest, _with_}
+use Rattle.bits.specs.Words.{has, _with_}
+use Rattle.bits.specs.Sets.{lowest}
 use Rattle.bits.proofs.Truth.{is-false, and-right, true-and}
 use Rattle.bits.proofs.Walk.{lowest-least}
-use Rattle.table.specs.Table.{tableLength, isTable, state}
+use Rattle.table.specs.Reading.{tableLength, state}
+use Rattle.table.specs.Table.{isTable}
 use Rattle.table.proofs.Table.{is-table}
 use Rattle.machine.specs.Machine.{Seat, idle, at}
 use Rattle.machine.proofs.Seats.{idle-at, same-user, same-level}
-use Rattle.image.specs.Image.{clearedRoles, seatOwner, seatRoles, grantedRoles, labelOf, seatOf, isImage}
-use Rattle.image.specs.Test.{showsImage}
+use Rattle.image.specs.Image.{clearedRoles, seatOwner, seatRoles, grantedRoles}
+use Rattle.image.specs.Test.{labelOf, seatOf, isImage, showsImage}
 use Rattle.image.proofs.Roles.{cleared-elim, cleared-own, seat-elim, seat-reads, reader-is, reader-has}
 
 pub label-below : (roles : ℕ) → labelOf roles < 32

@@ -3,10 +3,11 @@ use Prim.Native.Nat.{ℕ, zero, suc, _+_, _-_, _^_, _≤_, _<_}
 use mathlib.Core.Path.{_≡_, refl, sym, ap, ap₂, subst, _∙_}
 use mathlib.Core.Bool.{Bool, true, false}
 use native.Mathlib.Omega.{arith}
-use Rattle.bits.specs.Sets.{has, pack, _with_}
+use Rattle.bits.specs.Words.{has, pack, _with_}
 use Rattle.bits.proofs.Truth.{clash, same-truth}
 use Rattle.bits.proofs.Word.{has-zero, has-pack, with-lt, with-elim, with-new, with-old}
-use Rattle.table.specs.State.{State, senior, authorised}
+use Rattle.table.specs.State.{State}
+use Rattle.table.specs.Authority.{senior, authorised}
 use Rattle.table.proofs.State.{authorised-intro, authorised-elim}
 use Rattle.machine.specs.Label.{dominates}
 use Rattle.machine.specs.Machine.{Seat, idle, at}

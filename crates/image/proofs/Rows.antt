@@ -3,8 +3,7 @@ use Prim.Native.Nat.{ℕ, _<_}
 use mathlib.Core.Path.{_≡_, refl, ap, _∙_}
 use mathlib.Core.List.{List, [], _∷_}
 use lib.ListN.{getD}
-use Rattle.bits.specs.Truth.{_and_, _or_, _implies_, if_then_else_}
-use Rattle.bits.specs.Sets.{has, all, each, subset, bit, pack}
+use Rattle.bits.specs.Words.{_and_, _or_, _implies_, if_then_else_, has, all, each, subset, bit, pack}
 use Rattle.table.specs.Table.{tabulate}
 use Rattle.table.proofs.Tabulate.{getD-tabulate}
 use Rattle.machine.specs.Label.{class, brands, dominates}

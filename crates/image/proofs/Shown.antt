@@ -5,11 +5,11 @@ use mathlib.Core.Bool.{Bool, true, false}
 use native.Mathlib.Omega.{arith}
 use lib.Dec.{eqb, ltb}
 use borrow.Author.Tests.{ne-eqb, eqb-true, lt-ltb, ltb-true, ltb-false}
-use Rattle.bits.specs.Truth.{_and_}
-use Rattle.bits.specs.Sets.{has, pack}
+use Rattle.bits.specs.Words.{_and_, has, pack}
 use Rattle.bits.proofs.Truth.{clash, by-truth, is-false, same-truth, and-intro, and-left, and-right, and-false}
 use Rattle.bits.proofs.Word.{has-pack, pack-none}
-use Rattle.table.specs.State.{State, senior, permission, idle, mayActivate, effective}
+use Rattle.table.specs.State.{State}
+use Rattle.table.specs.Authority.{senior, permission, idle, mayActivate, effective}
 use Rattle.table.specs.Sound.{Sound}
 use Rattle.table.proofs.State.{effective-intro, effective-elim, may-activate-user}
 use Rattle.machine.specs.Label.{dominates}

@@ -6,18 +6,17 @@ use mathlib.Core.List.{List}
 use native.Mathlib.Omega.{arith}
 use lib.Dec.{ltb}
 use lib.ListN.{length, getD}
-use Rattle.bits.specs.Truth.{_and_}
-use Rattle.bits.specs.Sets.{pack, _with_}
+use Rattle.bits.specs.Words.{_and_, pack, _with_}
 use Rattle.bits.proofs.Truth.{and-false}
 use Rattle.bits.proofs.Word.{pack-none}
 use Rattle.table.specs.Answers.{overlay, clearedFrom}
-use Rattle.table.specs.Table.{tableLength, state, tabulate}
+use Rattle.table.specs.Reading.{tableLength, state}
+use Rattle.table.specs.Table.{tabulate}
 use Rattle.table.proofs.Answers.{length-cleared, cleared-before, cleared-after, length-overlay, overlay-at, overlay-before}
 use Rattle.table.proofs.Encode as encode
 use Rattle.table.proofs.Tabulate.{length-tabulate, getD-tabulate}
-use Rattle.machine.specs.Machine.{idle}
+use Rattle.machine.specs.Machine.{idle, begin}
 use Rattle.image.specs.Image.{clearedRoles, seatRoles, seatOwner, grantedRoles, shown, image}
-use Rattle.image.specs.SetUp.{begin}
 use Rattle.image.proofs.Rows.{rows, row-is, masks, mask-is}
 
 module _ (t clearances labels : List ℕ) (whole : length t ≡ tableLength) where

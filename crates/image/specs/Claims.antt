@@ -1,15 +1,12 @@
 -- What is claimed of images, each as the answer to a question. proofs/Claims.antt proves them.
-use Prim.Native.Nat.{ℕ, _^_, _<_}
-use mathlib.Core.Path.{_≡_}
-use mathlib.Core.Bool.{true}
-use mathlib.Core.List.{List}
 use mathlib.Core.Logic.{_↔_}
-use lib.ListN.{length}
-use Rattle.table.specs.Table.{tableLength, word, state}
+use Rattle.bits.specs.Words.{ℕ, _^_, _<_, _≡_, true, List, length}
+use Rattle.table.specs.Reading.{tableLength, word, state}
 use Rattle.sound.specs.Answers.{isSound}
 use Rattle.machine.specs.Label.{dominates}
 use Rattle.machine.specs.Machine.{Machine, at, mayOpen}
-use Rattle.image.specs.Image.{image, isImage}
+use Rattle.image.specs.Image.{image}
+use Rattle.image.specs.Test.{isImage}
 use Rattle.image.specs.SetUp.{labelSetUp}
 
 -- the clearances, labels, users and levels of a machine state are there

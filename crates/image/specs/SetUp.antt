@@ -1,25 +1,9 @@
--- The label set-up of 01: refusals 12, 18 and 19 in order, then the image of the machine at its start. Old contents of the
--- table do not matter.
-use Prim.Native.Nat.{ℕ}
-use mathlib.Core.Bool.{Bool, false, not}
-use mathlib.Core.List.{List}
-use lib.Dec.{eqb, ltb}
-use lib.ListN.{length, getD}
-use Rattle.bits.specs.Truth.{_and_, if_then_else_}
-use Rattle.bits.specs.Sets.{all}
+-- The label set-up of 01: refusals 12, 18 and 19 in order, then the image of the machine at its start.
+use Rattle.bits.specs.Words.{ℕ, Bool, not, List, eqb, ltb, length, getD, _and_, if_then_else_, all}
 use Rattle.table.specs.Table.{isTable}
 use Rattle.roles.specs.Request.{Outcome, refuse, accept}
-use Rattle.machine.specs.Machine.{Machine, idle}
+use Rattle.machine.specs.Machine.{begin}
 use Rattle.image.specs.Image.{image}
-
--- the machine at its start: the clearances and labels of the set-up, all sessions idle and nothing open
-unfoldable pub begin : List ℕ → List ℕ → Machine
-begin clearances labels = record {
-  clearance = λ u. getD clearances u 0;
-  label = λ o. getD labels o 0;
-  seat = λ s. idle;
-  held = λ s o x. false;
-}
 
 -- the values of a list of 64 are labels
 unfoldable pub areLabels : List ℕ → Bool

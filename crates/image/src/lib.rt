@@ -10,12 +10,14 @@ use table::layout::WORDS;
 ghost use mathlib.Core.Path.{_≡_};
 ghost use Prim.Native.Nat.{_+_, _≤_};
 ghost use lib.ListN.{length, getD};
-ghost use Rattle.bits.specs.Sets.{_with_};
-ghost use Rattle.table.specs.Table.{state, tabulate};
+ghost use Rattle.bits.specs.Words.{_with_};
+ghost use Rattle.table.specs.Reading.{state};
+ghost use Rattle.table.specs.Table.{tabulate};
 ghost use Rattle.roles.specs.Answer.{numberOf};
-ghost use Rattle.image.specs.Image.{image, clearedRoles, seatRoles, seatOf, seniorityFits, permissionsFit, usersFit, objectsFit, levelsFit};
-ghost use Rattle.image.specs.SetUp.{begin, areLabels, labelSetUp};
-ghost use Rattle.image.specs.Test.{IsLabel, showsImage};
+ghost use Rattle.image.specs.Image.{image, clearedRoles, seatRoles};
+ghost use Rattle.image.specs.Test.{seatOf, seniorityFits, permissionsFit, usersFit, objectsFit, levelsFit, IsLabel, showsImage};
+ghost use Rattle.machine.specs.Machine.{begin};
+ghost use Rattle.image.specs.SetUp.{areLabels, labelSetUp};
 
 // The juniors of each role, and the role: a read role has those whose label its own dominates, a write role the other way round.
 const JUNIORS: [u64; 64] = [

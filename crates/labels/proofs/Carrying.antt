@@ -6,10 +6,10 @@ use mathlib.Core.List.{List, []}
 use lib.Dec.{eqb}
 use lib.ListN.{length}
 use Rattle.bits.proofs.Truth.{if-true, if-false, past, stopped}
-use Rattle.table.specs.Table.{state}
+use Rattle.table.specs.Reading.{state}
 use Rattle.roles.specs.Request.{Ask, ask, Outcome}
 use Rattle.machine.specs.Machine.{starting, reclearing}
-use Rattle.image.specs.Image.{machineOf}
+use Rattle.image.specs.Test.{machineOf}
 use Rattle.labels.specs.Guard.{Plan, RoleGuard, single, startPlan, reclearPlan, saysYes, plan, run, carryOut}
 
 module _ (guard : RoleGuard) (t : List ℕ) where

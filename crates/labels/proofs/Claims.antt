@@ -6,17 +6,18 @@ use mathlib.Core.List.{List}
 use native.Mathlib.Omega.{arith}
 use lib.Dec.{eqb}
 use lib.ListN.{length}
-use Rattle.bits.specs.Truth.{if_then_else_}
+use Rattle.bits.specs.Words.{if_then_else_}
 use Rattle.bits.proofs.Truth.{by-truth, if-true, if-false, past, stopped}
 use Rattle.table.specs.Sound.{sound}
-use Rattle.table.specs.Table.{isTable, state}
+use Rattle.table.specs.Table.{isTable}
+use Rattle.table.specs.Reading.{state}
 use Rattle.sound.specs.Answers.{isSound}
 use Rattle.sound.proofs.Answers.{sound-state, sound-table}
 use Rattle.roles.specs.Request.{Ask, ask, Outcome, refuse}
 use Rattle.roles.specs.Guard.{roleStep}
 use Rattle.roles.proofs.Requests.{refuse-is}
 use Rattle.machine.specs.Machine.{Request, opening, closing, starting, ending, reclearing, isCode, inRange, decode}
-use Rattle.image.specs.Image.{machineOf, isImage}
+use Rattle.image.specs.Test.{machineOf, isImage}
 use Rattle.labels.specs.Guard.{Plan, single, startPlan, reclearPlan, saysYes, plan, carryOut, labelStep}
 use Rattle.labels.specs.Claims.{ServedSame, KeptSound, AtMostThree}
 use Rattle.labels.proofs.Refusing.{translated-code, translated-argument, translated-plan, image-step-table, label-step-short, label-step-unsound, label-step-none, label-step-image}

@@ -6,11 +6,11 @@ use mathlib.Core.Bool.{Bool, true, false, not}
 use mathlib.Core.List.{List}
 use borrow.Author.Tests.{eq-eqb, ne-eqb}
 use Rattle.bits.proofs.Truth.{confirmed, refuted}
-use Rattle.table.specs.Table.{state}
+use Rattle.table.specs.Reading.{state}
 use Rattle.roles.specs.Request.{Ask, ask, Outcome}
 use Rattle.roles.specs.Guard.{soundStep}
 use Rattle.machine.specs.Machine.{starting, reclearing}
-use Rattle.image.specs.Image.{labelOf, machineOf}
+use Rattle.image.specs.Test.{labelOf, machineOf}
 use Rattle.labels.specs.Guard.{saysYes, plan, carryOut}
 use Rattle.labels.proofs.Carrying.{start-busy, start-uncleared, start-cleared, reclear-same, reclear-kept, reclear-changed}
 

@@ -7,12 +7,13 @@ use lib.ListN.{length}
 use borrow.Author.Tests.{le-leb, lt-leb}
 use Rattle.bits.proofs.Truth.{past, stopped, and-intro, false-and, and-false}
 use Rattle.table.specs.Sound.{sound}
-use Rattle.table.specs.Table.{tableLength, isTable, state}
+use Rattle.table.specs.Reading.{tableLength, state}
+use Rattle.table.specs.Table.{isTable}
 use Rattle.table.proofs.Table.{is-table}
 use Rattle.roles.specs.Request.{Ask, ask, refuse}
 use Rattle.roles.specs.Guard.{roleStep, soundStep}
 use Rattle.machine.specs.Machine.{Request, isCode, inRange, decode}
-use Rattle.image.specs.Image.{isImage}
+use Rattle.image.specs.Test.{isImage}
 use Rattle.labels.specs.Guard.{RoleGuard, plan, carryOut, translated, labelStep, imageStep}
 
 -- ---- the code

@@ -6,14 +6,14 @@ use mathlib.Core.List.{List, [], _∷_}
 use lib.Dec.{eqb}
 use lib.ListN.{length}
 use Rattle.bits.proofs.Truth.{by-truth}
-use Rattle.table.specs.Table.{state}
+use Rattle.table.specs.Reading.{state}
 use Rattle.sound.specs.Answers.{isSound}
 use Rattle.roles.specs.Request.{Ask, ask, Outcome}
 use Rattle.roles.specs.Guard.{roleStep, soundStep}
 use Rattle.roles.proofs.Claims.{served-same}
 use Rattle.roles.proofs.Steps.{step-sound}
 use Rattle.machine.specs.Machine.{Request, opening, closing, starting, ending, reclearing, isCode, inRange, decode}
-use Rattle.image.specs.Image.{machineOf}
+use Rattle.image.specs.Test.{machineOf}
 use Rattle.labels.specs.Guard.{Plan, single, startPlan, reclearPlan, saysYes, plan, run, carryOut, translated}
 use Rattle.labels.proofs.Refusing.{translated-code, translated-argument, translated-plan}
 

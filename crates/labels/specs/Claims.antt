@@ -1,12 +1,9 @@
 -- What is claimed of the label layer, each as the answer to a question. proofs/Claims.antt proves them.
-use Prim.Native.Nat.{ℕ, _≤_}
-use mathlib.Core.Path.{_≡_}
-use mathlib.Core.Bool.{true}
-use mathlib.Core.List.{List}
-use Rattle.table.specs.Table.{state}
+use Rattle.bits.specs.Words.{ℕ, _≤_, _≡_, true, List}
+use Rattle.table.specs.Reading.{state}
 use Rattle.sound.specs.Answers.{isSound}
 use Rattle.roles.specs.Request.{Ask}
-use Rattle.image.specs.Image.{isImage}
+use Rattle.image.specs.Test.{isImage}
 use Rattle.labels.specs.Guard.{labelStep, imageStep}
 
 -- Does it matter that `serve` leaves the tests of soundness and image out? Not on a sound image.

@@ -1,16 +1,12 @@
 -- The label layer of 01: each label request as role requests made on its behalf, its answer and the figure spent.
-use Prim.Native.Nat.{ℕ, _+_}
-use mathlib.Core.Bool.{Bool, not}
-use mathlib.Core.List.{List, [], _∷_}
-use lib.Dec.{eqb}
-use lib.ListN.{length}
-use Rattle.bits.specs.Truth.{if_then_else_}
+use Rattle.bits.specs.Words.{ℕ, _+_, Bool, not, List, [], _∷_, eqb, length, if_then_else_}
 use Rattle.table.specs.Sound.{sound}
-use Rattle.table.specs.Table.{isTable, state}
+use Rattle.table.specs.Table.{isTable}
+use Rattle.table.specs.Reading.{state}
 use Rattle.roles.specs.Request.{Ask, ask, Outcome, refuse}
 use Rattle.roles.specs.Guard.{roleStep, soundStep}
 use Rattle.machine.specs.Machine.{Request, opening, closing, starting, ending, reclearing, isCode, inRange, decode}
-use Rattle.image.specs.Image.{machineOf, isImage}
+use Rattle.image.specs.Test.{machineOf, isImage}
 
 -- the translation of a label request: its answer, and the role requests made on its behalf in order
 pub record Plan : Type 0 where

@@ -1,7 +1,5 @@
 -- What a label request answers, in 01's numbers. `Replied` serves the contracts of the private functions.
-use Prim.Native.Nat.{ℕ}
-use mathlib.Core.Path.{_≡_}
-use mathlib.Core.List.{List}
+use Rattle.bits.specs.Words.{ℕ, _≡_, List}
 use Rattle.roles.specs.Request.{Outcome}
 use Rattle.roles.specs.Answer.{numberOf}
 use Rattle.labels.specs.declared.LabelAnswer.{LabelAnswer}

@@ -7,7 +7,7 @@ ghost use mathlib.Core.Path.{_≡_};
 ghost use Prim.Native.Nat.{_-_, _≤_, _<_};
 ghost use mathlib.Core.List.{[]};
 ghost use lib.ListN.{length, getD};
-ghost use Rattle.table.specs.Table.{state};
+ghost use Rattle.table.specs.Reading.{state};
 ghost use Rattle.roles.specs.Request.{ask};
 ghost use Rattle.roles.specs.Guard.{soundStep};
 ghost use Rattle.roles.specs.Answer.{numberOf};

@@ -6,9 +6,10 @@ use mathlib.Core.List.{List}
 use native.Mathlib.Omega.{arith}
 use lib.Dec.{eqb, leb}
 use borrow.Author.Tests.{eqb-true, ne-eqb}
-use Rattle.bits.specs.Truth.{_and_, if_then_else_}
+use Rattle.bits.specs.Words.{_and_, if_then_else_}
 use Rattle.bits.proofs.Truth.{if-false}
-use Rattle.table.specs.Table.{state, encode}
+use Rattle.table.specs.Reading.{state}
+use Rattle.table.specs.Table.{encode}
 use Rattle.roles.specs.Request.{Ask, ask, Outcome, refuse, decide, accept}
 use Rattle.roles.specs.Roles.{decode, allowed, changed}
 use Rattle.roles.specs.Guard.{roleStep}

@@ -7,15 +7,15 @@ use native.Mathlib.Omega.{arith}
 use lib.Dec.{eqb}
 use lib.ListN.{length}
 use borrow.Author.Tests.{eqb-true}
-use Rattle.bits.specs.Truth.{_and_}
+use Rattle.bits.specs.Words.{_and_}
 use Rattle.bits.proofs.Truth.{by-truth, and-left, and-right}
 use Rattle.table.specs.Table.{isTable}
 use Rattle.sound.specs.Answers.{isSound}
 use Rattle.roles.specs.Request.{Ask, Outcome, refuse, decide, accept}
-use Rattle.machine.specs.Machine.{Machine, isCode, inRange, decode, allowed, step}
+use Rattle.machine.specs.Machine.{Machine, isCode, inRange, decode, allowed, step, begin}
 use Rattle.machine.proofs.Steps.{step-code, step-argument, step-act}
 use Rattle.image.specs.Image.{image}
-use Rattle.image.specs.SetUp.{begin, areLabels, labelSetUp}
+use Rattle.image.specs.SetUp.{areLabels, labelSetUp}
 use Rattle.image.specs.Claims.{Imaged}
 use Rattle.image.proofs.Claims.{sound-image}
 use Rattle.image.proofs.Accepting.{set-up-short, set-up-lists, set-up-values, set-up-accepted}

@@ -8,10 +8,11 @@ use lib.Dec.{eqb, leb, ltb}
 use lib.ListN.{length, getD, set, length-set}
 use lib.Seq.{getD-set-same, getD-set-other}
 use borrow.Author.Tests.{eqb-true, eqb-false, le-leb, leb-true, lt-ltb}
-use Rattle.bits.specs.Truth.{_and_, _or_, if_then_else_}
+use Rattle.bits.specs.Words.{_and_, _or_, if_then_else_}
 use Rattle.bits.proofs.Truth.{by-truth, and-left, and-right, or-left, past, stopped}
 use Rattle.bits.proofs.Below.{all-intro, all-elim}
-use Rattle.table.specs.Table.{isTable, state}
+use Rattle.table.specs.Table.{isTable}
+use Rattle.table.specs.Reading.{state}
 use Rattle.sound.specs.Answers.{isSound}
 use Rattle.sound.proofs.Answers.{sound-state, sound-table}
 use Rattle.roles.specs.Request.{Ask, ask, Outcome, refuse, decide, accept}

@@ -7,9 +7,10 @@ use native.Mathlib.Omega.{arith}
 use lib.Dec.{eqb}
 use lib.ListN.{length}
 use borrow.Author.Tests.{eqb-true}
-use Rattle.bits.specs.Truth.{_and_}
+use Rattle.bits.specs.Words.{_and_}
 use Rattle.bits.proofs.Truth.{by-truth, and-left, and-right}
-use Rattle.table.specs.Table.{isTable, state}
+use Rattle.table.specs.Table.{isTable}
+use Rattle.table.specs.Reading.{state}
 use Rattle.roles.specs.Request.{Ask, Outcome, refuse, decide, accept}
 use Rattle.roles.specs.Roles.{isCode, inRange, decode, known}
 use Rattle.roles.specs.Guard.{allowedSound, soundStep}

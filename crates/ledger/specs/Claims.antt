@@ -1,11 +1,5 @@
 -- What is claimed of a transcript's lines, each as the answer to a question. proofs/Claims.antt proves them.
-use Prim.Native.Nat.{ℕ, _<_}
-use mathlib.Core.Path.{_≡_}
-use mathlib.Core.Bool.{Bool, true}
-use mathlib.Core.List.{List}
-use lib.Dec.{eqb, leb}
-use lib.ListN.{length}
-use Rattle.bits.specs.Truth.{_or_}
+use Rattle.bits.specs.Words.{ℕ, _<_, _≡_, Bool, true, List, eqb, leb, length, _or_}
 use Rattle.table.specs.Table.{isTable}
 use Rattle.sound.specs.Answers.{isSound}
 use Rattle.image.specs.SetUp.{areLabels}

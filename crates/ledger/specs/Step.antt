@@ -1,8 +1,5 @@
 -- What a line of a transcript comes to: its answer, what it spends, and what is kept after it.
-use Prim.Native.Nat.{ℕ}
-use mathlib.Core.List.{List}
-use lib.Dec.{eqb}
-use Rattle.bits.specs.Truth.{if_then_else_}
+use Rattle.bits.specs.Words.{ℕ, List, eqb, if_then_else_}
 use Rattle.roles.specs.Request.{Ask, ask, Outcome, refuse, accept}
 use Rattle.roles.specs.Guard.{roleStep, soundStep}
 use Rattle.setup.specs.SetUp.{roleSetUp}

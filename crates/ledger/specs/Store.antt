@@ -1,12 +1,6 @@
 -- What a transcript keeps from line to line, and how a set-up line changes a list.
-use Prim.Native.Nat.{ℕ}
-use mathlib.Core.Path.{_≡_}
-use mathlib.Core.Bool.{not}
-use mathlib.Core.List.{List}
-use lib.Dec.{leb}
-use lib.ListN.{getD, set}
-use Rattle.bits.specs.Truth.{_and_, if_then_else_}
-use Rattle.bits.specs.Sets.{_with_}
+use Rattle.bits.specs.Words.{ℕ, _≡_, not, List, leb, getD, _and_, if_then_else_, _with_}
+use lib.ListN.{set}
 use Rattle.roles.specs.Request.{Outcome, refuse, accept}
 use Rattle.entries.specs.declared.Phase.{Phase}
 

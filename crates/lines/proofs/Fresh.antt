@@ -7,7 +7,7 @@ use mathlib.Core.Option.{Option, some, none}
 use native.Mathlib.Omega.{arith}
 use lib.Dec.{eqb, ltb}
 use borrow.Author.Tests.{ne-eqb, leb-true}
-use Rattle.bits.specs.Truth.{_and_, if_then_else_}
+use Rattle.bits.specs.Words.{_and_, if_then_else_}
 use Rattle.bits.proofs.Truth.{and-left}
 use Rattle.lines.specs.Bytes.{empty}
 use Rattle.lines.specs.Line.{behind, digit}

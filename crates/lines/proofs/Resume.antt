@@ -6,7 +6,7 @@ use mathlib.Core.List.{List, [], _∷_, _++_}
 use mathlib.Core.Option.{Option, some, none}
 use lib.Dec.{eqb, ltb}
 use borrow.Author.Tests.{eqb-true}
-use Rattle.bits.specs.Truth.{_and_, if_then_else_}
+use Rattle.bits.specs.Words.{_and_, if_then_else_}
 use Rattle.lines.specs.Line.{first, others, spelled, digit, plain, number, behind, push, fields, joined}
 use Rattle.lines.specs.Reader.{letter, wordOf, begun, tabbed, pushed, stepOf, ended, finished, steps}
 use Rattle.lines.specs.declared.Word.{Word}

@@ -9,7 +9,7 @@ use native.Mathlib.Nat.{pow-succ', pow-le-pow-right, mul-le-mul-right, mul-assoc
 use lib.Dec.{eqb, leb, ltb, lit<}
 use lib.ListN.{length}
 use borrow.Author.Tests.{eqb-false, ltb-true, leb-true, leb-false, ltb-false}
-use Rattle.bits.specs.Truth.{_and_, if_then_else_}
+use Rattle.bits.specs.Words.{_and_, if_then_else_}
 use Rattle.lines.specs.Bytes.{every, empty, same}
 use Rattle.lines.specs.Line.{Entry, words, first, others, find, spelled, digit, worth, plain, number, behind, push, fields, joined, line}
 use Rattle.lines.specs.declared.Word.{Word}

@@ -6,7 +6,7 @@ use mathlib.Core.List.{List, [], _∷_, reverseAux, reverse, reverse-reverse}
 use native.Mathlib.Omega.{arith}
 use lib.Dec.{eqb, leb, ltb, lit<}
 use borrow.Author.Tests.{eqb-true, eq-eqb, ne-eqb, leb-true}
-use Rattle.bits.specs.Truth.{_and_, if_then_else_}
+use Rattle.bits.specs.Words.{_and_, if_then_else_}
 use Rattle.lines.specs.Bytes.{every, same}
 use Rattle.lines.specs.Line.{Entry, words, find, spelled}
 use Rattle.lines.specs.Reader.{letter, packed, known, wordOf}

@@ -1,9 +1,5 @@
 -- Tests on lists of bytes.
-use Prim.Native.Nat.{ℕ}
-use mathlib.Core.Bool.{Bool, true, false}
-use mathlib.Core.List.{List, [], _∷_}
-use lib.Dec.{eqb}
-use Rattle.bits.specs.Truth.{_and_}
+use Rattle.bits.specs.Words.{ℕ, Bool, true, false, List, [], _∷_, eqb, _and_}
 
 -- every byte passes the test
 unfoldable pub every : (ℕ → Bool) → List ℕ → Bool

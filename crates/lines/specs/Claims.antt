@@ -1,7 +1,5 @@
 -- What is claimed of the line reader, each as the answer to a question. proofs/Claims.antt proves them.
-use Prim.Native.Nat.{ℕ}
-use mathlib.Core.Path.{_≡_}
-use mathlib.Core.List.{List, [], _∷_, _++_}
+use Rattle.bits.specs.Words.{ℕ, _≡_, List, [], _∷_, _++_}
 use Rattle.lines.specs.Bytes.{empty}
 use Rattle.lines.specs.Line.{line}
 use Rattle.lines.specs.Reader.{finished, steps, pieced, fresh}

@@ -1,12 +1,7 @@
 -- What a line of the transcript program is: refusal 10 of 01 and its section on the program. A line is its bytes without
 -- the newline. Whether the word belongs to the mode, and takes as many fields, is the transcript's to say.
-use Prim.Native.Nat.{ℕ, _+_, _-_, _*_, _^_}
-use mathlib.Core.Bool.{Bool, false}
-use mathlib.Core.List.{List, [], _∷_}
+use Rattle.bits.specs.Words.{ℕ, _+_, _-_, _*_, _^_, Bool, false, List, [], _∷_, eqb, leb, ltb, length, _and_, if_then_else_}
 use mathlib.Core.Option.{Option, some, none}
-use lib.Dec.{eqb, leb, ltb}
-use lib.ListN.{length}
-use Rattle.bits.specs.Truth.{_and_, if_then_else_}
 use Rattle.lines.specs.Bytes.{every, empty, same}
 use Rattle.lines.specs.declared.Word.{Word}
 use Rattle.lines.specs.declared.Word.the-variants.{Roles, Lattice, Above, Permit, Clear, Label, Run, Open, Close, Start, End, Activate, Drop, Assign, Deassign, Grant, Revoke, Reclear}

@@ -1,11 +1,7 @@
 -- The reader, a byte at a time: where it stands after each, and what it makes of the line at its end. Claims says that
 -- this is what Line says of the whole line, however it is cut.
-use Prim.Native.Nat.{ℕ, _+_, _-_, _*_, _^_}
-use mathlib.Core.Bool.{Bool, false}
-use mathlib.Core.List.{List, [], _∷_}
+use Rattle.bits.specs.Words.{ℕ, _+_, _-_, _*_, _^_, Bool, false, List, [], _∷_, eqb, leb, ltb, _and_, if_then_else_}
 use mathlib.Core.Option.{Option, some, none}
-use lib.Dec.{eqb, leb, ltb}
-use Rattle.bits.specs.Truth.{_and_, if_then_else_}
 use Rattle.lines.specs.Line.{Entry, words, digit, behind}
 use Rattle.lines.specs.declared.Word.{Word}
 use Rattle.lines.specs.declared.Spelled.{Spelled}

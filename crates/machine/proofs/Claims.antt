@@ -4,8 +4,7 @@ use mathlib.Core.Path.{_≡_, refl, sym, ap, _∙_}
 use mathlib.Core.Bool.{true}
 use lib.Dec.{eqb}
 use borrow.Author.Tests.{eqb-true}
-use Rattle.bits.specs.Truth.{_and_, _or_, _implies_}
-use Rattle.bits.specs.Sets.{has, all, each, subset}
+use Rattle.bits.specs.Words.{_and_, _or_, _implies_, has, all, each, subset}
 use Rattle.bits.proofs.Below.{all-elim}
 use Rattle.machine.specs.Label.{class, brands, dominates}
 use Rattle.machine.specs.Claims.{PartialOrder, CaseI}

@@ -6,8 +6,7 @@ use native.Mathlib.Nat.{le-of-suc-le-suc}
 use native.Mathlib.Omega.{arith}
 use lib.Dec.{eqb}
 use borrow.Author.Tests.{leb-true}
-use Rattle.bits.specs.Truth.{_and_, if_then_else_}
-use Rattle.bits.specs.Sets.{all}
+use Rattle.bits.specs.Words.{_and_, if_then_else_, all}
 use Rattle.bits.proofs.Truth.{by-truth, and-intro, and-left, and-right, past, stopped}
 use Rattle.roles.specs.Request.{Ask, ask, Outcome, refuse, decide}
 use Rattle.roles.proofs.Serving.{decide-yes, decide-no}

@@ -7,7 +7,7 @@ use mathlib.Core.List.{List, [], _∷_, List·Memᴰ, List·Memᴰ·head, List·
 use native.Mathlib.Omega.{arith}
 use lib.Dec.{eqb}
 use borrow.Author.Tests.{eq-eqb, eqb-true}
-use Rattle.bits.specs.Truth.{_and_, if_then_else_}
+use Rattle.bits.specs.Words.{_and_, if_then_else_}
 use Rattle.bits.proofs.Truth.{clash, and-intro, and-left, and-right}
 use Rattle.table.proofs.Agree.{upd-same, upd-other}
 use Rattle.roles.specs.Request.{Ask, Outcome}
@@ -72,15 +72,15 @@ module _ (m : Machine) (q : Ask) where
 -- ---- one life
 
 abbrev event : Machine → Ask → Event
-event m q = record { asked = q; answer = step m q .answer }
+event m q = record { asked = q; answer = step m q .answer; spent = step m q .spent }
 
 not-ended : (s : ℕ) (e : Event) → yesTo 4 s e ≡ false → e .asked .code ≡ 4 → e .asked .a ≡ s → e .answer ≡ 1 → ⊥
 unfolding yesTo
 not-ended s e h p q r = clash (and-intro (eq-eqb _ _ p) (and-intro (eq-eqb _ _ q) (eq-eqb _ _ r))) h
 
-opens-here : (m : Machine) (q : Ask) (s u y o x : ℕ) → m .seat s ≡ at u y → opened s o x ≡ event m q
+opens-here : (m : Machine) (q : Ask) (s u y o x n : ℕ) → m .seat s ≡ at u y → opened s o x n ≡ event m q
     → mayOpen (at u y) (m .label o) x ≡ true
-opens-here m q s u y o x e p =
+opens-here m q s u y o x n e p =
     let c : 1 ≡ q .code = ap (λ (v : Event). v .asked .code) p in
     let a : s ≡ q .a = ap (λ (v : Event). v .asked .a) p in
     let b : o ≡ q .b = ap (λ (v : Event). v .asked .b) p in
@@ -89,20 +89,20 @@ opens-here m q s u y o x e p =
     rw (← e, a, b, d) (open-yes m q (cases m q) (sym c) (sym z))
 
 -- what a life opens fits its level
-in-life : (s u y o x : ℕ) (m : Machine) (qs : List Ask) → m .seat s ≡ at u y
-    → List·Memᴰ (opened s o x) (upToEnd s (trace step m qs)) → mayOpen (at u y) (m .label o) x ≡ true
+in-life : (s u y o x n : ℕ) (m : Machine) (qs : List Ask) → m .seat s ≡ at u y
+    → List·Memᴰ (opened s o x n) (upToEnd s (trace step m qs)) → mayOpen (at u y) (m .label o) x ≡ true
 unfolding upToEnd trace if_then_else_
-in-life s u y o x m [] e h = absurd (List·Memᴰ·not-nil h)
-in-life s u y o x m (q ∷ qs) e h = go (λ e′. in-life s u y o x (step m q .state) qs e′) (yesTo 4 s (event m q)) refl h
+in-life s u y o x n m [] e h = absurd (List·Memᴰ·not-nil h)
+in-life s u y o x n m (q ∷ qs) e h = go (λ e′. in-life s u y o x n (step m q .state) qs e′) (yesTo 4 s (event m q)) refl h
   where
     rest : List Event
     rest = upToEnd s (trace step (step m q .state) qs)
 
-    go : (step m q .state .seat s ≡ at u y → List·Memᴰ (opened s o x) rest → mayOpen (at u y) (step m q .state .label o) x ≡ true)
-        → (b : Bool) → yesTo 4 s (event m q) ≡ b → List·Memᴰ (opened s o x) (if b then [] else event m q ∷ rest)
+    go : (step m q .state .seat s ≡ at u y → List·Memᴰ (opened s o x n) rest → mayOpen (at u y) (step m q .state .label o) x ≡ true)
+        → (b : Bool) → yesTo 4 s (event m q) ≡ b → List·Memᴰ (opened s o x n) (if b then [] else event m q ∷ rest)
         → mayOpen (at u y) (m .label o) x ≡ true
     go below true b k = absurd (List·Memᴰ·not-nil k)
-    go below false b (List·Memᴰ·head p) = opens-here m q s u y o x e p
+    go below false b (List·Memᴰ·head p) = opens-here m q s u y o x n e p
     go below false b (List·Memᴰ·tail k) =
         rw (label-fixed m q (cases m q)) at (below (keeps m q s u y (cases m q) e (not-ended s (event m q) b)) k)
 
@@ -110,7 +110,7 @@ in-life s u y o x m (q ∷ qs) e h = go (λ e′. in-life s u y o x (step m q .s
 record Level (label : ℕ → ℕ) (s : ℕ) (life : List Event) : Type 0 where
   user : ℕ
   level : ℕ
-  fitting : (o x : ℕ) → List·Memᴰ (opened s o x) life → mayOpen (at user level) (label o) x ≡ true
+  fitting : (o x n : ℕ) → List·Memᴰ (opened s o x n) life → mayOpen (at user level) (label o) x ≡ true
 
 started : (s : ℕ) (m : Machine) (q : Ask) → yesTo 3 s (event m q) ≡ true → step m q .state .seat s ≡ at (q .b) (q .c)
 unfolding yesTo
@@ -137,7 +137,7 @@ life-level s m (q ∷ qs) life h =
     go below true b (List·Memᴰ·head p) = record {
       user = q .b;
       level = q .c;
-      fitting = λ o x k. in-life s (q .b) (q .c) o x after qs (started s m q b) (subst (List·Memᴰ (opened s o x)) p k);
+      fitting = λ o x n k. in-life s (q .b) (q .c) o x n after qs (started s m q b) (subst (List·Memᴰ (opened s o x n)) p k);
     }
     go below true b (List·Memᴰ·tail k) = below k
     go below false b k = below k
@@ -147,7 +147,7 @@ life-level s m (q ∷ qs) life h =
 pub walled : Walled
 unfolding mayOpen
 walled m qs c d same = dominates-refl (m .label c)
-walled m qs c d (through {e = e} h s life k r w) =
+walled m qs c d (through {e = e} {i = i} {j = j} h s life k r w) =
     let l = life-level s m qs life k in
-    dominates-trans (m .label d) (l .level) (m .label c) (l .fitting d 1 w)
-    (dominates-trans (l .level) (m .label e) (m .label c) (l .fitting e 0 r) (walled m qs c e h))
+    dominates-trans (m .label d) (l .level) (m .label c) (l .fitting d 1 j w)
+    (dominates-trans (l .level) (m .label e) (m .label c) (l .fitting e 0 i r) (walled m qs c e h))

@@ -1,8 +1,5 @@
 -- What is claimed of labels and of the machine, each as the answer to a question. proofs/Claims.antt proves them.
-use Prim.Native.Nat.{ℕ, _<_}
-use mathlib.Core.Path.{_≡_}
-use mathlib.Core.Bool.{true, false}
-use mathlib.Core.List.{List}
+use Rattle.bits.specs.Words.{ℕ, _<_, _≡_, true, false, List}
 use Rattle.roles.specs.Request.{Ask}
 use Rattle.machine.specs.Label.{dominates}
 use Rattle.machine.specs.Machine.{Machine, step}

@@ -1,9 +1,5 @@
 -- Labels (01, "Labels"): a number 0 to 31, for a class from 0 to 3 and a set of three brands, a bit each.
-use Prim.Native.Nat.{ℕ, _/_, _%_}
-use mathlib.Core.Bool.{Bool}
-use lib.Dec.{leb}
-use Rattle.bits.specs.Truth.{_and_}
-use Rattle.bits.specs.Sets.{subset}
+use Rattle.bits.specs.Words.{ℕ, _/_, _%_, Bool, leb, _and_, subset}
 
 unfoldable pub class : ℕ → ℕ
 class l = l / 8

@@ -1,13 +1,6 @@
 -- The Bell-LaPadula machine of 01 ("Labels"): its state, its five requests, and the answer, the figure and the next state of
 -- each. Users and objects are 0 to 63, sessions 0 to 31, labels 0 to 31; mode 0 reads, mode 1 writes without reading.
-use Prim.Native.Nat.{ℕ, zero, suc, _-_}
-use mathlib.Core.Bool.{Bool, true, false, not}
-use mathlib.Core.List.{List, [], _∷_}
-use lib.Dec.{eqb, leb}
-use lib.ListN.{getD}
-use Rattle.bits.specs.Truth.{_and_, _implies_, if_then_else_}
-use Rattle.bits.specs.Sets.{all}
-use Rattle.table.specs.State.{upd}
+use Rattle.bits.specs.Words.{ℕ, zero, suc, _-_, Bool, true, false, not, List, [], _∷_, eqb, leb, getD, _and_, _implies_, if_then_else_, upd, all}
 use Rattle.roles.specs.Request.{Ask, Outcome, refuse, decide, within}
 use Rattle.machine.specs.Label.{dominates}
 
@@ -16,17 +9,17 @@ pub data Seat : Type 0 where
   idle : Seat
   at : (user level : ℕ) → Seat
 
+-- clearances of users; labels of objects, which no request changes; seats of sessions; and what they hold open
 pub record Machine : Type 0 where
-  -- of user u
-  pub clearance : ℕ → ℕ
-  -- of object o; no request changes it
-  pub label : ℕ → ℕ
-  -- of session s
-  pub seat : ℕ → Seat
-  -- session s holds object o open in mode x
-  pub held : ℕ → ℕ → ℕ → Bool
+  pub clearance : (user : ℕ) → ℕ
+  pub label : (object : ℕ) → ℕ
+  pub seat : (session : ℕ) → Seat
+  pub held : (session object mode : ℕ) → Bool
 
--- ---- requests
+-- the machine at its start: the clearances and labels of a set-up, all sessions idle and nothing open
+unfoldable pub begin : List ℕ → List ℕ → Machine
+begin clearances labels =
+    record { clearance = λ u. getD clearances u 0; label = λ o. getD labels o 0; seat = λ s. idle; held = λ s o x. false }
 
 pub data Request : Type 0 where
   opening : (s o x : ℕ) → Request
@@ -40,31 +33,16 @@ isCode q = leb 1 (q .code) and leb (q .code) 5
 
 -- the largest value of each argument, a row for each code from 1 on; one that is not listed must be 0
 unfoldable pub limits : List (List ℕ)
-limits =
-    (31 ∷ 63 ∷ 1 ∷ [])
-    ∷ (31 ∷ 63 ∷ 1 ∷ [])
-    ∷ (31 ∷ 63 ∷ 31 ∷ [])
-    ∷ (31 ∷ 0 ∷ 0 ∷ [])
-    ∷ (63 ∷ 31 ∷ 0 ∷ [])
-    ∷ []
+limits = (31 ∷ 63 ∷ 1 ∷ []) ∷ (31 ∷ 63 ∷ 1 ∷ []) ∷ (31 ∷ 63 ∷ 31 ∷ []) ∷ (31 ∷ 0 ∷ 0 ∷ []) ∷ (63 ∷ 31 ∷ 0 ∷ []) ∷ []
 
 unfoldable pub inRange : Ask → Bool
 inRange q = within (getD limits (q .code - 1) []) q
 
--- the request of a code from 1 to 5
+-- the request of a code from 1 to 5, in their order
 unfoldable pub decode : Ask → Request
 decode q =
-    getD
-    (opening (q .a) (q .b) (q .c)
-    ∷ closing (q .a) (q .b) (q .c)
-    ∷ starting (q .a) (q .b) (q .c)
-    ∷ ending (q .a)
-    ∷ reclearing (q .a) (q .b)
-    ∷ [])
-    (q .code - 1)
-    (reclearing (q .a) (q .b))
-
--- ---- what each request does
+    getD (opening (q .a) (q .b) (q .c) ∷ closing (q .a) (q .b) (q .c) ∷ starting (q .a) (q .b) (q .c) ∷ ending (q .a) ∷ [])
+    (q .code - 1) (reclearing (q .a) (q .b))
 
 unfoldable pub isIdle : Seat → Bool
 isIdle idle = true
@@ -99,20 +77,11 @@ withHeld m s o x b = record {
 }
 
 abbrev pub withSeat : Machine → ℕ → Seat → Machine
-withSeat m s k = record {
-  clearance = m .clearance;
-  label = m .label;
-  seat = upd (m .seat) s k;
-  held = upd (m .held) s (λ o x. false);
-}
+withSeat m s k =
+    record { clearance = m .clearance; label = m .label; seat = upd (m .seat) s k; held = upd (m .held) s (λ o x. false) }
 
 abbrev pub withClearance : Machine → ℕ → ℕ → Machine
-withClearance m u c = record {
-  clearance = upd (m .clearance) u c;
-  label = m .label;
-  seat = m .seat;
-  held = m .held;
-}
+withClearance m u c = record { clearance = upd (m .clearance) u c; label = m .label; seat = m .seat; held = m .held }
 
 -- the state after a yes
 unfoldable pub next : Machine → Request → Machine

@@ -1,11 +1,6 @@
 -- The transcript's output as bytes: 01, "prints a header and a line for each: line number from 1, answer, spent".
-use Prim.Native.Nat.{ℕ, zero, suc, _+_, _/_, _%_}
-use mathlib.Core.List.{List, [], _∷_, _++_}
-use mathlib.Core.Path.{_≡_}
-use lib.Dec.{leb}
-use lib.ListN.{length}
+use Rattle.bits.specs.Words.{ℕ, zero, suc, _+_, _/_, _%_, _≡_, List, [], _∷_, _++_, leb, length, if_then_else_}
 use lib.Seq.{sets}
-use Rattle.bits.specs.Truth.{if_then_else_}
 
 -- the decimal digits of n, the last k at most: one digit, or those of n / 10 and one more
 unfoldable pub text : ℕ → ℕ → List ℕ

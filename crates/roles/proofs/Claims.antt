@@ -6,14 +6,16 @@ use mathlib.Core.List.{List, [], _∷_}
 use native.Mathlib.Nat.{le-of-suc-le-suc}
 use lib.Dec.{eqb}
 use borrow.Author.Tests.{le-leb, eqb-true, eqb-false, not-true}
-use Rattle.bits.specs.Truth.{_and_, _or_}
-use Rattle.bits.specs.Sets.{has, _with_, _without_}
+use Rattle.bits.specs.Words.{_and_, _or_, upd, has, _with_}
+use Rattle.bits.specs.Sets.{_without_}
 use Rattle.bits.proofs.Truth.{clash, by-truth, same-truth, and-intro, and-left, and-right, false-or, true-and, false-and, and-false, and-comm}
 use Rattle.bits.proofs.Below.{any-intro, any-elim}
 use Rattle.bits.proofs.Word.{has-with, has-without, with-there, without-absent}
-use Rattle.table.specs.State.{State, senior, permission, effective, upd}
+use Rattle.table.specs.State.{State}
+use Rattle.table.specs.Authority.{senior, permission, effective}
 use Rattle.table.specs.Sound.{Sound}
-use Rattle.table.specs.Table.{state, encode}
+use Rattle.table.specs.Reading.{state}
+use Rattle.table.specs.Table.{encode}
 use Rattle.table.proofs.State.{effective-intro, effective-elim}
 use Rattle.table.proofs.Sound.{sound-elim, sound-intro}
 use Rattle.table.proofs.Table.{table-length}

@@ -6,10 +6,12 @@ use native.Mathlib.Omega.{arith}
 use lib.Dec.{ltb}
 use lib.ListN.{set}
 use borrow.Author.Tests.{lt-ltb, le-ltb, ltb-true, ltb-false}
-use Rattle.bits.specs.Truth.{if_then_else_}
+use Rattle.bits.specs.Words.{if_then_else_, upd}
 use Rattle.bits.proofs.Truth.{by-truth, if-true, if-false}
-use Rattle.table.specs.State.{State, upd, withHolds}
-use Rattle.table.specs.Table.{holdsAt, encode}
+use Rattle.table.specs.State.{State}
+use Rattle.table.specs.Changes.{withHolds}
+use Rattle.table.specs.Reading.{holdsAt}
+use Rattle.table.specs.Table.{encode}
 use Rattle.table.proofs.Agree.{agree-refl, agree-sym, agree-trans, agree-holds-twice, agree-own-holds, agree-with-holds, upd-same, by-upd}
 use Rattle.table.proofs.Encode.{state-encode, encode-cong, write-holds}
 use Rattle.roles.specs.Served.{closedAll}

@@ -2,11 +2,14 @@
 use Prim.Native.Nat.{ℕ, suc, _<_}
 use mathlib.Core.Path.{_≡_, refl, sym, ap, _∙_}
 use mathlib.Core.Bool.{true}
-use Rattle.bits.specs.Sets.{has, _with_, _without_}
+use Rattle.bits.specs.Words.{upd, has, _with_}
+use Rattle.bits.specs.Sets.{_without_}
 use Rattle.bits.proofs.Truth.{clash}
 use Rattle.bits.proofs.Word.{has-zero, with-elim, with-old, without-old, without-none}
 use Rattle.bits.proofs.Members.{not-empty}
-use Rattle.table.specs.State.{State, idle, permission, mayActivate, effective, upd, withAssigned, withGranted, withOwner, withActive, withHolds}
+use Rattle.table.specs.State.{State}
+use Rattle.table.specs.Authority.{idle, permission, mayActivate, effective}
+use Rattle.table.specs.Changes.{withAssigned, withGranted, withOwner, withActive, withHolds}
 use Rattle.table.specs.Sound.{Sound}
 use Rattle.table.proofs.Sound.{sound-elim}
 use Rattle.table.proofs.State.{may-activate-idle, may-activate-user}

@@ -3,7 +3,7 @@ use Prim.Native.Nat.{ℕ}
 use mathlib.Core.Path.{_≡_, sym, ap, subst, _∙_}
 use mathlib.Core.Bool.{not}
 use mathlib.Core.List.{List}
-use Rattle.bits.specs.Truth.{if_then_else_}
+use Rattle.bits.specs.Words.{if_then_else_}
 use Rattle.bits.proofs.Truth.{by-truth, past, stopped}
 use Rattle.table.specs.State.{State}
 use Rattle.table.specs.Sound.{Sound}

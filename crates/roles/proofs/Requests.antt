@@ -8,9 +8,12 @@ use native.Mathlib.Omega.{arith}
 use native.Mathlib.Nat.{le-of-suc-le-suc}
 use lib.ListN.{getD}
 use borrow.Author.Tests.{le-leb}
-use Rattle.bits.specs.Sets.{_with_, _without_}
+use Rattle.bits.specs.Words.{upd, _with_}
+use Rattle.bits.specs.Sets.{_without_}
 use Rattle.bits.proofs.Truth.{and-intro}
-use Rattle.table.specs.State.{State, idle, mayActivate, effective, upd, withAssigned, withOwner, withActive, withHolds}
+use Rattle.table.specs.State.{State}
+use Rattle.table.specs.Authority.{idle, mayActivate, effective}
+use Rattle.table.specs.Changes.{withAssigned, withOwner, withActive, withHolds}
 use Rattle.table.specs.Sound.{Sound}
 use Rattle.table.specs.Table.{encode}
 use Rattle.table.proofs.Sound.{sound-elim, sound-intro}

@@ -7,7 +7,8 @@ use borrow.Author.Tests.{le-leb}
 use Rattle.bits.proofs.Truth.{by-truth, true-and}
 use Rattle.table.specs.State.{State}
 use Rattle.table.specs.Sound.{sound, Sound}
-use Rattle.table.specs.Table.{isTable, state, encode}
+use Rattle.table.specs.Table.{isTable, encode}
+use Rattle.table.specs.Reading.{state}
 use Rattle.table.proofs.Sound.{sound-elim}
 use Rattle.sound.proofs.Parts.{drop-sound, deassign-sound, revoke-sound}
 use Rattle.roles.specs.Request.{Ask, decide}

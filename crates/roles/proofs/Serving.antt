@@ -7,7 +7,8 @@ use lib.ListN.{getD, set}
 use lib.Seq.{set-set, set-getD}
 use Rattle.bits.proofs.Truth.{if-true, if-false, past, stopped}
 use Rattle.table.specs.State.{State}
-use Rattle.table.specs.Table.{state, encode}
+use Rattle.table.specs.Reading.{state}
+use Rattle.table.specs.Table.{encode}
 use Rattle.roles.specs.Request.{refuse, decide}
 use Rattle.roles.specs.Roles.{Request, known, changed}
 use Rattle.roles.specs.Guard.{served, allowedSound}

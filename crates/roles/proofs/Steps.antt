@@ -4,11 +4,13 @@ use mathlib.Core.Path.{_≡_, refl, ap, ap₂, _∙_}
 use mathlib.Core.Bool.{Bool, true, not}
 use mathlib.Core.List.{List}
 use native.Mathlib.Omega.{arith}
-use Rattle.bits.specs.Sets.{_with_, _without_}
+use Rattle.bits.specs.Words.{_with_}
+use Rattle.bits.specs.Sets.{_without_}
 use Rattle.bits.proofs.Truth.{by-truth}
 use Rattle.table.specs.State.{State}
 use Rattle.table.specs.Sound.{sound, Sound}
-use Rattle.table.specs.Table.{isTable, state, encode}
+use Rattle.table.specs.Table.{isTable, encode}
+use Rattle.table.specs.Reading.{state}
 use Rattle.table.proofs.Sound.{sound-elim, sound-intro}
 use Rattle.table.proofs.Agree.{Agree, agree-sym, idle-agree, permission-agree, may-activate-agree, effective-agree, sound-agree, agree-sound, upd-agree, agree-with-holds, agree-with-active, agree-with-owner, agree-with-assigned, agree-with-granted}
 use Rattle.table.proofs.Encode.{state-encode, encode-cong}

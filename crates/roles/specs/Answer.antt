@@ -1,5 +1,5 @@
 -- 01's number for every answer and every refusal.
-use Prim.Native.Nat.{ℕ}
+use Rattle.bits.specs.Words.{ℕ}
 use Rattle.roles.specs.declared.Refusal.{Refusal}
 use Rattle.roles.specs.declared.Refusal.the-variants.{WrongLength, Unsound, NoImage, BadCode, BadArgument, NoPermission, BadListLength, BadValue, Cycle}
 use Rattle.roles.specs.declared.Answer.{Answer}

@@ -1,11 +1,8 @@
 -- What is claimed of the role guard, each as the answer to a question. proofs/Claims.antt proves them.
-use Prim.Native.Nat.{ℕ, _^_, _<_}
-use mathlib.Core.Path.{_≡_}
-use mathlib.Core.Bool.{Bool, true, false, not}
-use mathlib.Core.List.{List, [], _∷_}
-use Rattle.bits.specs.Sets.{has}
-use Rattle.table.specs.State.{State, senior, permission}
-use Rattle.table.specs.Table.{word, state}
+use Rattle.bits.specs.Words.{ℕ, _^_, _<_, _≡_, Bool, true, false, not, List, [], _∷_, has}
+use Rattle.table.specs.State.{State}
+use Rattle.table.specs.Authority.{senior, permission}
+use Rattle.table.specs.Reading.{word, state}
 use Rattle.sound.specs.Answers.{isSound}
 use Rattle.roles.specs.Request.{Ask, ask, Outcome}
 use Rattle.roles.specs.Roles.{Request, opens, closes, starts, ends, activates, drops, assigns, deassigns, grants, revokes, isCode, inRange, decode, known}

@@ -1,12 +1,10 @@
 -- The role guard on a lent table: refusals in 01's order, then yes or no.
-use Prim.Native.Nat.{ℕ}
-use mathlib.Core.Bool.{Bool, true, not}
-use mathlib.Core.List.{List}
-use lib.Dec.{leb}
-use Rattle.bits.specs.Truth.{_and_, if_then_else_}
-use Rattle.table.specs.State.{State, idle, mayActivate, effective}
+use Rattle.bits.specs.Words.{ℕ, Bool, true, not, List, leb, _and_, if_then_else_}
+use Rattle.table.specs.State.{State}
+use Rattle.table.specs.Authority.{idle, mayActivate, effective}
 use Rattle.table.specs.Sound.{sound}
-use Rattle.table.specs.Table.{isTable, state, encode}
+use Rattle.table.specs.Table.{isTable, encode}
+use Rattle.table.specs.Reading.{state}
 use Rattle.sound.specs.Answers.{openingsFit, sessionsFit, pairFits}
 use Rattle.roles.specs.Request.{Ask, Outcome, refuse, decide}
 use Rattle.roles.specs.Roles.{Request, opens, closes, starts, ends, activates, drops, assigns, deassigns, grants, revokes, isCode, inRange, decode, known, allowed, changed}

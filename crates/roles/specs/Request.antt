@@ -1,10 +1,5 @@
 -- A request as it comes, and what one comes to. The role guard, the label guard and the Bell-LaPadula machine share these.
-use Prim.Native.Nat.{ℕ}
-use mathlib.Core.Bool.{Bool, true, false}
-use mathlib.Core.List.{List}
-use lib.Dec.{leb}
-use lib.ListN.{getD}
-use Rattle.bits.specs.Truth.{_and_}
+use Rattle.bits.specs.Words.{ℕ, Bool, true, false, List, leb, getD, _and_}
 
 -- a code and three arguments, any numbers
 pub record Ask : Type 0 where

@@ -1,12 +1,9 @@
 -- The ten role requests: the table of 01 ("Role requests"), a line for each.
-use Prim.Native.Nat.{ℕ, suc, _-_}
-use mathlib.Core.Bool.{Bool, true, not}
-use mathlib.Core.List.{List, [], _∷_}
-use lib.Dec.{leb}
-use lib.ListN.{getD}
-use Rattle.bits.specs.Truth.{_and_}
-use Rattle.bits.specs.Sets.{_with_, _without_}
-use Rattle.table.specs.State.{State, permission, idle, mayActivate, effective, upd, withAssigned, withGranted, withOwner, withActive, withHolds}
+use Rattle.bits.specs.Words.{ℕ, suc, _-_, Bool, true, not, List, [], _∷_, leb, getD, _and_, upd, _with_}
+use Rattle.bits.specs.Sets.{_without_}
+use Rattle.table.specs.State.{State}
+use Rattle.table.specs.Authority.{permission, idle, mayActivate, effective}
+use Rattle.table.specs.Changes.{withAssigned, withGranted, withOwner, withActive, withHolds}
 use Rattle.table.specs.Sound.{sound}
 use Rattle.roles.specs.Request.{Ask, within}
 

@@ -1,13 +1,10 @@
 -- What the private functions, one for each request, take and answer. No promise rests on this page.
-use Prim.Native.Nat.{ℕ, _<_}
-use mathlib.Core.Path.{_≡_}
-use mathlib.Core.Bool.{Bool, true}
-use mathlib.Core.List.{List}
-use lib.Dec.{ltb}
-use lib.ListN.{length}
-use Rattle.bits.specs.Truth.{if_then_else_}
-use Rattle.table.specs.State.{State, permission, withHolds}
-use Rattle.table.specs.Table.{tableLength, state, encode}
+use Rattle.bits.specs.Words.{ℕ, _<_, _≡_, Bool, true, List, ltb, length, if_then_else_}
+use Rattle.table.specs.State.{State}
+use Rattle.table.specs.Authority.{permission}
+use Rattle.table.specs.Changes.{withHolds}
+use Rattle.table.specs.Reading.{tableLength, state}
+use Rattle.table.specs.Table.{encode}
 use Rattle.roles.specs.Roles.{Request, opens, closes, starts, ends, activates, drops, assigns, deassigns, grants, revokes, changed}
 use Rattle.roles.specs.Guard.{allowedSound}
 

@@ -1,11 +1,7 @@
 -- Table 1 of source 000, in its own terms: the state (m, user, UA, PA, roles) of §2.4, the effective permissions EP of §2.5
 -- and the transition for an opening (+) and a closing (-). Sets are tests of their elements.
-use Prim.Native.Nat.{ℕ, _<_}
-use mathlib.Core.Path.{_≡_}
-use mathlib.Core.Bool.{Bool, true, not}
-use lib.Dec.{eqb}
-use Rattle.bits.specs.Truth.{_and_, _or_}
-use Rattle.bits.specs.Sets.{has, any}
+use Rattle.bits.specs.Words.{ℕ, _<_, _≡_, Bool, true, not, eqb, _and_, _or_, has}
+use Rattle.bits.specs.Sets.{any}
 use Rattle.table.specs.State.{State}
 use Rattle.roles.specs.Request.{Outcome, decide}
 

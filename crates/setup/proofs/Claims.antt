@@ -6,12 +6,11 @@ use mathlib.Core.List.{List}
 use native.Mathlib.Omega.{arith}
 use lib.Dec.{eqb}
 use lib.ListN.{length}
-use borrow.Author.Tests.{eqb-true, eqb-false}
-use Rattle.bits.specs.Truth.{_and_}
+use borrow.Author.Tests.{eqb-true, eqb-false, not-true}
+use Rattle.bits.specs.Words.{_and_}
 use Rattle.bits.proofs.Truth.{by-truth, is-false, and-left, and-right, implies-elim, implies-counter}
 use Rattle.bits.proofs.Below.{all-elim, all-counter}
 use Rattle.bits.proofs.Members.{each-elim, each-counter}
-use borrow.Author.Tests.{not-true}
 use Rattle.table.specs.Table.{isTable, encode}
 use Rattle.table.proofs.Sound.{sound-intro}
 use Rattle.table.proofs.Table.{is-table, table-length}

@@ -9,8 +9,8 @@ use native.Mathlib.Omega.{arith}
 use lib.Dec.{eqb}
 use lib.ListN.{length, getD}
 use borrow.Author.Tests.{eqb-true, eqb-false}
-use Rattle.bits.specs.Truth.{_and_, _or_, if_then_else_}
-use Rattle.bits.specs.Sets.{has, join, _with_}
+use Rattle.bits.specs.Words.{_and_, _or_, if_then_else_, has, _with_}
+use Rattle.bits.specs.Sets.{join}
 use Rattle.bits.proofs.Truth.{by-truth, and-intro, and-left, and-right, or-left, or-right, or-elim, or-false, true-and, false-and, if-true, if-false}
 use Rattle.bits.proofs.Word.{has-join, with-new, with-old, with-elim}
 use Rattle.table.specs.Table.{tabulate}

@@ -1,13 +1,7 @@
 -- The reflexive, transitive closure of 64 words of direct juniors, worked out by Warshall's way. What it is, the roles that
 -- a chain of links reaches, is `Reaches`; Claims says that the two are the same.
-use Prim.Native.Nat.{ℕ, zero, suc, _<_}
-use mathlib.Core.Path.{_≡_}
-use mathlib.Core.Bool.{Bool, true}
-use mathlib.Core.List.{List}
-use lib.Dec.{eqb}
-use lib.ListN.{getD}
-use Rattle.bits.specs.Truth.{_implies_, if_then_else_}
-use Rattle.bits.specs.Sets.{has, all, each, join, _with_}
+use Rattle.bits.specs.Words.{ℕ, zero, suc, _<_, _≡_, Bool, true, List, eqb, getD, _implies_, if_then_else_, has, all, each, _with_}
+use Rattle.bits.specs.Sets.{join}
 use Rattle.table.specs.Table.{tabulate}
 
 -- every role that has k has what k has

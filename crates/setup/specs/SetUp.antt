@@ -1,11 +1,6 @@
 -- The role set-up of 01: refusals 12, 18 and 20 in order, then the closure, the permissions and zero elsewhere. Old
 -- contents of the table do not matter.
-use Prim.Native.Nat.{ℕ}
-use mathlib.Core.Bool.{not}
-use mathlib.Core.List.{List}
-use lib.Dec.{eqb}
-use lib.ListN.{length, getD}
-use Rattle.bits.specs.Truth.{_and_, if_then_else_}
+use Rattle.bits.specs.Words.{ℕ, not, List, eqb, length, getD, _and_, if_then_else_}
 use Rattle.table.specs.State.{State}
 use Rattle.table.specs.Table.{isTable, encode}
 use Rattle.roles.specs.Request.{Outcome, refuse, accept}

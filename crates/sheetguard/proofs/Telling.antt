@@ -8,7 +8,8 @@ use lib.ListN.{length, getD, set}
 use lib.Seq.{ext-getD}
 use Rattle.bits.proofs.Truth.{past, stopped}
 use Rattle.table.specs.Sound.{sound}
-use Rattle.table.specs.Table.{isTable, state}
+use Rattle.table.specs.Table.{isTable}
+use Rattle.table.specs.Reading.{state}
 use Rattle.table.specs.Answers.{overlay, effectivePermissions}
 use Rattle.table.proofs.Answers.{length-overlay, overlay-at}
 use Rattle.table.proofs.Tabulate.{length-tabulate}

@@ -1,12 +1,8 @@
 -- What the two reading functions answer and write: refusals 12, 13 and 16 in order, then the words asked for.
-use Prim.Native.Nat.{ℕ}
-use mathlib.Core.Bool.{Bool, not}
-use mathlib.Core.List.{List, [], _∷_}
-use lib.Dec.{eqb, ltb}
-use lib.ListN.{length}
-use Rattle.bits.specs.Truth.{_and_, if_then_else_}
+use Rattle.bits.specs.Words.{ℕ, Bool, not, List, [], _∷_, eqb, ltb, length, _and_, if_then_else_}
 use Rattle.table.specs.Sound.{sound}
-use Rattle.table.specs.Table.{isTable, state}
+use Rattle.table.specs.Table.{isTable}
+use Rattle.table.specs.Reading.{state}
 use Rattle.table.specs.Answers.{authorisedRoles, effectivePermissions}
 
 -- an answer, and the lent words after the call

@@ -6,15 +6,17 @@ use mathlib.Core.List.{List}
 use lib.Dec.{eqb, ltb}
 use lib.ListN.{length}
 use borrow.Author.Tests.{eq-eqb, eqb-true, lt-ltb, le-ltb}
-use Rattle.bits.specs.Truth.{_and_, _implies_}
-use Rattle.bits.specs.Sets.{has, each, subset, overlap, pack}
+use Rattle.bits.specs.Words.{_and_, _implies_, has, each, subset, pack}
+use Rattle.bits.specs.Sets.{overlap}
 use Rattle.bits.proofs.Truth.{clash, is-false, same-truth, and-intro, and-left, and-right, true-and, false-and, and-false, implies-intro, implies-elim}
 use Rattle.bits.proofs.Below.{all-intro, all-fails, all-cong}
 use Rattle.bits.proofs.Members.{each-intro, each-elim, each-cong, subset-intro, subset-elim, subset-pack}
-use Rattle.table.specs.State.{State, permission, covers, authorised, effective}
+use Rattle.table.specs.State.{State}
+use Rattle.table.specs.Authority.{permission, covers, authorised, effective}
 use Rattle.table.specs.Sound.{sound, Sound}
 use Rattle.table.specs.Answers.{coveredRoles, openable}
-use Rattle.table.specs.Table.{tableLength, isTable, state, encode}
+use Rattle.table.specs.Reading.{tableLength, state}
+use Rattle.table.specs.Table.{isTable, encode}
 use Rattle.table.proofs.Agree.{Agree, authorised-agree, effective-agree, sound-agree}
 use Rattle.table.proofs.Encode.{state-encode, encode-length}
 use Rattle.table.proofs.State.{effective-is}

@@ -5,12 +5,14 @@ use mathlib.Core.Bool.{true, false, not}
 use native.Mathlib.Omega.{arith}
 use lib.Dec.{eqb}
 use borrow.Author.Tests.{eqb-true, eqb-false, eq-eqb, ne-eqb, leb-true, le-leb, lt-leb, not-true}
-use Rattle.bits.specs.Sets.{has, lowest, subset, overlap, pack, _without_}
+use Rattle.bits.specs.Words.{has, subset, pack}
+use Rattle.bits.specs.Sets.{lowest, overlap, _without_}
 use Rattle.bits.proofs.Truth.{clash, by-truth, is-false, same-truth, not-intro, and-intro, and-left, and-right, true-and, false-and, or-left, or-right, or-elim}
 use Rattle.bits.proofs.Word.{has-pack, none-in, without-old, without-other, without-keeps}
 use Rattle.bits.proofs.Members.{not-empty, each-intro, each-elim, each-cong, subset-intro, subset-elim, subset-pack, overlap-elim}
 use Rattle.bits.proofs.Walk.{lowest-lt, lowest-in}
-use Rattle.table.specs.State.{State, senior, permission, idle, user, covers, authorised, mayActivate}
+use Rattle.table.specs.State.{State}
+use Rattle.table.specs.Authority.{senior, permission, idle, user, covers, authorised, mayActivate}
 use Rattle.table.specs.Sound.{sound, Sound}
 use Rattle.table.proofs.State.{covers-elim, effective-is, may-activate-idle, may-activate-busy}
 use Rattle.table.proofs.Sound.{sound-intro}

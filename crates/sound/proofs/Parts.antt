@@ -7,7 +7,8 @@ use Rattle.bits.proofs.Truth.{same-truth, implies-intro, implies-elim}
 use Rattle.bits.proofs.Below.{all-intro, all-elim}
 use Rattle.bits.proofs.Word.{without-old, without-none}
 use Rattle.bits.proofs.Members.{each-intro, each-elim}
-use Rattle.table.specs.State.{State, withAssigned, withGranted, withActive}
+use Rattle.table.specs.State.{State}
+use Rattle.table.specs.Changes.{withAssigned, withGranted, withActive}
 use Rattle.table.specs.Sound.{sound, Sound}
 use Rattle.table.proofs.State.{may-activate-user}
 use Rattle.table.proofs.Sound.{sound-intro, sound-elim}

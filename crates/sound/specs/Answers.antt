@@ -1,14 +1,11 @@
 -- What the public functions answer, for a list of any length and any number: no, where the list is no table or there is no
 -- such session, user, mode or object. `isSound` is 01's soundness; the others are the part of it that one change can break.
-use Prim.Native.Nat.{ℕ, suc}
-use mathlib.Core.Bool.{Bool}
-use mathlib.Core.List.{List}
-use lib.Dec.{eqb, ltb}
-use Rattle.bits.specs.Truth.{_and_, _implies_}
-use Rattle.bits.specs.Sets.{has, all, each}
-use Rattle.table.specs.State.{State, authorised, effective}
+use Rattle.bits.specs.Words.{ℕ, suc, Bool, List, eqb, ltb, _and_, _implies_, has, all, each}
+use Rattle.table.specs.State.{State}
+use Rattle.table.specs.Authority.{authorised, effective}
 use Rattle.table.specs.Sound.{sound}
-use Rattle.table.specs.Table.{isTable, state}
+use Rattle.table.specs.Table.{isTable}
+use Rattle.table.specs.Reading.{state}
 
 -- this is a table, and sound
 unfoldable pub isSound : List ℕ → Bool

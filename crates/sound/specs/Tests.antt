@@ -1,11 +1,9 @@
 -- What the private functions that make up the soundness test answer, item by item. No promise rests on this page: the public
 -- test is held to `sound`, and that these items come to it is proved.
-use Prim.Native.Nat.{ℕ}
-use mathlib.Core.Bool.{Bool, not}
-use lib.Dec.{eqb, leb}
-use Rattle.bits.specs.Truth.{_and_, _or_}
-use Rattle.bits.specs.Sets.{all, each, subset, overlap, _without_}
-use Rattle.table.specs.State.{State, senior, permission, mayActivate}
+use Rattle.bits.specs.Words.{ℕ, Bool, not, eqb, leb, _and_, _or_, all, each, subset}
+use Rattle.bits.specs.Sets.{overlap, _without_}
+use Rattle.table.specs.State.{State}
+use Rattle.table.specs.Authority.{senior, permission, mayActivate}
 
 -- q, a junior of r and another role, is not senior to r, and its juniors are juniors of r
 unfoldable pub juniorFits : State → ℕ → ℕ → Bool

@@ -9,7 +9,7 @@ use table::layout::WORDS;
 ghost use mathlib.Core.Path.{_≡_};
 ghost use Prim.Native.Nat.{_<_};
 ghost use lib.ListN.{length};
-ghost use Rattle.table.specs.Table.{state};
+ghost use Rattle.table.specs.Reading.{state};
 ghost use Rattle.sound.specs.Answers.{isSound, openingsOf, sessionsOf, holdersOf};
 ghost use Rattle.sound.specs.Tests.{juniorFits, roleFits, grantFits, noneGranted, grantsFit, rolesFit, heldFits};
 

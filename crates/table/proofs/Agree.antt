@@ -6,11 +6,13 @@ use mathlib.Core.Bool.{Bool}
 use native.Mathlib.Omega.{arith}
 use lib.Dec.{eqb}
 use borrow.Author.Tests.{eq-eqb, ne-eqb, eqb-true, eqb-false}
-use Rattle.bits.specs.Truth.{_and_, if_then_else_}
-use Rattle.bits.specs.Sets.{has, some}
+use Rattle.bits.specs.Words.{_and_, if_then_else_, upd, has}
+use Rattle.bits.specs.Sets.{some}
 use Rattle.bits.proofs.Truth.{by-truth, same-truth, if-true, if-false}
 use Rattle.bits.proofs.Members.{some-cong}
-use Rattle.table.specs.State.{State, senior, permission, idle, user, covers, authorised, mayActivate, effective, upd, withAssigned, withGranted, withOwner, withActive, withHolds}
+use Rattle.table.specs.State.{State}
+use Rattle.table.specs.Authority.{senior, permission, idle, user, covers, authorised, mayActivate, effective}
+use Rattle.table.specs.Changes.{withAssigned, withGranted, withOwner, withActive, withHolds}
 use Rattle.table.specs.Sound.{sound, Sound}
 use Rattle.table.proofs.State.{may-activate-idle, may-activate-busy}
 use Rattle.table.proofs.Sound.{sound-elim, sound-intro}

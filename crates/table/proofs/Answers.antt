@@ -6,13 +6,15 @@ use mathlib.Core.List.{List, [], _∷_}
 use lib.Dec.{leb, ltb}
 use lib.ListN.{length, getD}
 use borrow.Author.Tests.{leb-true, le-leb, lt-leb, ltb-true, lt-ltb}
-use Rattle.bits.specs.Truth.{_and_, if_then_else_}
-use Rattle.bits.specs.Sets.{has, overlap, pack}
+use Rattle.bits.specs.Words.{_and_, if_then_else_, has, pack}
+use Rattle.bits.specs.Sets.{overlap}
 use Rattle.bits.proofs.Truth.{clash, is-false, and-intro, and-left, and-right, true-and, false-and, and-false, if-true, if-false}
 use Rattle.bits.proofs.Word.{has-zero, pack-cong, pack-none}
 use Rattle.bits.proofs.Members.{overlap-elim}
-use Rattle.table.specs.State.{State, permission, covers, authorised, mayActivate, effective}
-use Rattle.table.specs.Table.{tableLength, isTable, state, tabulate}
+use Rattle.table.specs.State.{State}
+use Rattle.table.specs.Authority.{permission, covers, authorised, mayActivate, effective}
+use Rattle.table.specs.Reading.{tableLength, state}
+use Rattle.table.specs.Table.{isTable, tabulate}
 use Rattle.table.specs.Answers.{coveredRoles, authorisedRoles, effectivePermissions, activatable, openable, overlay, clearedFrom}
 use Rattle.table.proofs.State.{effective-is}
 use Rattle.table.proofs.Table.{is-table, table-length}

@@ -4,11 +4,12 @@ use mathlib.Core.Path.{_≡_, refl}
 use mathlib.Core.Bool.{true}
 use mathlib.Core.List.{List}
 use lib.Dec.{eqb}
-use Rattle.bits.specs.Truth.{_and_, _or_, _implies_, if_then_else_}
-use Rattle.bits.specs.Sets.{has, all, any, each, some}
-use Rattle.table.specs.State.{covers, authorised, mayActivate, effective}
+use Rattle.bits.specs.Words.{_and_, _or_, _implies_, if_then_else_, has, all, each}
+use Rattle.bits.specs.Sets.{any, some}
+use Rattle.table.specs.Authority.{covers, authorised, mayActivate, effective}
 use Rattle.table.specs.Sound.{reflexive, transitive, antisymmetric, grantsPermitted, ownersKnown, idleEmpty, activeAuthorised, openingsEffective, sound}
-use Rattle.table.specs.Table.{state, tabulate, encode}
+use Rattle.table.specs.Reading.{state}
+use Rattle.table.specs.Table.{tabulate, encode}
 
 bench : List ℕ
 bench = encode (record {

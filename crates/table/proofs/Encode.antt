@@ -9,8 +9,11 @@ use lib.ListN.{length, getD, set, length-set, length-append, List·getD-append}
 use lib.Seq.{ext-getD, getD-append-add, getD-set-same, getD-set-other}
 use borrow.Author.Tests.{ltb-true, ltb-false}
 use Rattle.bits.proofs.Truth.{by-truth}
-use Rattle.table.specs.State.{State, upd, withAssigned, withGranted, withOwner, withActive, withHolds}
-use Rattle.table.specs.Table.{tableLength, juniorsAt, permittedAt, assignedAt, grantedAt, ownerAt, activeAt, holdsAt, word, state, tabulate, encode}
+use Rattle.table.specs.State.{State}
+use Rattle.bits.specs.Words.{upd}
+use Rattle.table.specs.Changes.{withAssigned, withGranted, withOwner, withActive, withHolds}
+use Rattle.table.specs.Reading.{tableLength, juniorsAt, permittedAt, assignedAt, grantedAt, ownerAt, activeAt, holdsAt, word, state}
+use Rattle.table.specs.Table.{tabulate, encode}
 use Rattle.table.proofs.Tabulate.{length-tabulate, getD-tabulate}
 use Rattle.table.proofs.Agree.{Agree, agree-refl, agree-sym, agree-trans, by-upd}
 

@@ -5,12 +5,14 @@ use mathlib.Core.Bool.{true, not}
 use native.Mathlib.Omega.{arith}
 use lib.Dec.{eqb}
 use borrow.Author.Tests.{eqb-true, eqb-false}
-use Rattle.bits.specs.Truth.{_and_}
-use Rattle.bits.specs.Sets.{has, some}
+use Rattle.bits.specs.Words.{_and_, has}
+use Rattle.bits.specs.Sets.{some}
 use Rattle.bits.proofs.Truth.{clash, by-truth}
 use Rattle.bits.proofs.Word.{has-zero}
 use Rattle.bits.proofs.Members.{not-empty}
-use Rattle.table.specs.State.{State, permission, idle, user, covers, authorised, mayActivate, effective, withAssigned, withGranted, withOwner, withActive, withHolds}
+use Rattle.table.specs.State.{State}
+use Rattle.table.specs.Authority.{permission, idle, user, covers, authorised, mayActivate, effective}
+use Rattle.table.specs.Changes.{withAssigned, withGranted, withOwner, withActive, withHolds}
 use Rattle.table.specs.Sound.{Sound}
 use Rattle.table.proofs.State.{authorised-intro, authorised-elim, effective-intro, effective-elim, may-activate-busy}
 use Rattle.table.proofs.Agree.{upd-other, by-upd, grid-same, by-grid}

@@ -4,12 +4,12 @@ use mathlib.Core.Path.{_≡_}
 use mathlib.Core.Bool.{true}
 use lib.Dec.{eqb}
 use borrow.Author.Tests.{eqb-true, eq-eqb, leb-true, le-leb}
-use Rattle.bits.specs.Truth.{_and_}
-use Rattle.bits.specs.Sets.{all}
+use Rattle.bits.specs.Words.{_and_, all}
 use Rattle.bits.proofs.Truth.{and-intro, and-left, and-right, implies-intro, implies-elim}
 use Rattle.bits.proofs.Below.{all-intro, all-elim}
 use Rattle.bits.proofs.Members.{each-intro, each-elim}
-use Rattle.table.specs.State.{State, senior, idle}
+use Rattle.table.specs.State.{State}
+use Rattle.table.specs.Authority.{senior, idle}
 use Rattle.table.specs.Sound.{reflexive, transitive, antisymmetric, grantsPermitted, ownersKnown, idleEmpty, activeAuthorised, openingsEffective, sound, Sound}
 
 module _ (S : State) where

@@ -6,9 +6,10 @@ use mathlib.Core.List.{List}
 use lib.Dec.{ltb}
 use lib.ListN.{length}
 use borrow.Author.Tests.{eq-eqb, ne-eqb, eqb-true, lt-ltb, le-ltb}
-use Rattle.bits.specs.Truth.{_and_}
+use Rattle.bits.specs.Words.{_and_}
 use Rattle.bits.proofs.Truth.{and-intro, and-false, false-and}
-use Rattle.table.specs.Table.{tableLength, isTable}
+use Rattle.table.specs.Reading.{tableLength}
+use Rattle.table.specs.Table.{isTable}
 
 module _ (t : List ℕ) where
   pub is-table : length t ≡ tableLength → isTable t ≡ true

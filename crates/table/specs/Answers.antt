@@ -1,14 +1,9 @@
 -- What the public functions answer, for a list of any length and any number: nothing of a list that is no table, nor of a
 -- user, session, mode or object that there is not.
-use Prim.Native.Nat.{ℕ, _+_, _-_}
-use mathlib.Core.Bool.{Bool}
-use mathlib.Core.List.{List}
-use lib.Dec.{leb, ltb}
-use lib.ListN.{length, getD}
-use Rattle.bits.specs.Truth.{_and_, if_then_else_}
-use Rattle.bits.specs.Sets.{pack}
-use Rattle.table.specs.State.{covers, authorised, mayActivate, effective}
-use Rattle.table.specs.Table.{isTable, state, tabulate}
+use Rattle.bits.specs.Words.{ℕ, _+_, _-_, Bool, List, leb, ltb, length, getD, _and_, if_then_else_, pack}
+use Rattle.table.specs.Authority.{covers, authorised, mayActivate, effective}
+use Rattle.table.specs.Table.{isTable, tabulate}
+use Rattle.table.specs.Reading.{state}
 
 -- the roles and all their juniors
 unfoldable pub coveredRoles : List ℕ → ℕ → ℕ

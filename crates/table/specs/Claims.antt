@@ -1,9 +1,8 @@
 -- What is claimed of the definitions themselves, each as the answer to a question. proofs/Claims.antt proves them.
-use Prim.Native.Nat.{ℕ}
-use mathlib.Core.Path.{_≡_}
-use mathlib.Core.Bool.{true}
 use mathlib.Core.Logic.{_↔_}
-use Rattle.table.specs.State.{State, authorised, effective, Authorised, Effective}
+use Rattle.bits.specs.Words.{ℕ, _≡_, true}
+use Rattle.table.specs.State.{State}
+use Rattle.table.specs.Authority.{authorised, effective, Authorised, Effective}
 use Rattle.table.specs.Sound.{sound, Sound}
 
 -- When is a role authorised for a user? Exactly when some role assigned to the user is senior to it or is it.

@@ -1,6 +1,9 @@
 -- The crate's definitions, in reading order.
 pub mod State
+pub mod Authority
 pub mod Sound
 pub mod Claims
 pub mod Table
+pub mod Reading
+pub mod Changes
 pub mod Answers

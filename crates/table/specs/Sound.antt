@@ -1,12 +1,8 @@
 -- Soundness of a state: a definition for each clause of 01, in its words, and the clauses together. `Sound` says the same
 -- as plain facts.
-use Prim.Native.Nat.{ℕ, _≤_, _<_}
-use mathlib.Core.Path.{_≡_}
-use mathlib.Core.Bool.{Bool, true}
-use lib.Dec.{eqb, leb}
-use Rattle.bits.specs.Truth.{_and_, _implies_}
-use Rattle.bits.specs.Sets.{has, all, each}
-use Rattle.table.specs.State.{State, senior, permission, idle, mayActivate, effective}
+use Rattle.bits.specs.Words.{ℕ, _≤_, _<_, _≡_, Bool, true, eqb, leb, _and_, _implies_, has, all, each}
+use Rattle.table.specs.State.{State}
+use Rattle.table.specs.Authority.{senior, permission, idle, mayActivate, effective}
 
 -- seniority is reflexive, transitive and has no two different roles each senior to the other
 unfoldable pub reflexive : State → Bool

@@ -1,59 +1,9 @@
--- The table of 01 ("The table"): 968 words that show a state, and the table of a state. Nothing above this page mentions a
--- place in the table. Words that a shorter list lacks read as 0.
-use Prim.Native.Nat.{ℕ, zero, suc, _+_, _*_, _/_, _%_}
-use mathlib.Core.Bool.{Bool}
-use mathlib.Core.List.{List, [], _∷_, _++_}
-use lib.Dec.{eqb}
-use lib.ListN.{length, getD}
+-- The table of 01 ("The table"): 968 words that show a state.
+use Rattle.bits.specs.Words.{ℕ, zero, suc, _/_, _%_, Bool, List, [], _∷_, _++_, eqb, length}
 use Rattle.table.specs.State.{State}
 
--- the number of words of a table
-abbrev pub tableLength : ℕ
-tableLength = 968
-
 unfoldable pub isTable : List ℕ → Bool
-isTable t = eqb (length t) tableLength
-
--- ---- where each word stands
-
-abbrev pub juniorsAt : ℕ → ℕ
-juniorsAt r = r
-
-abbrev pub permittedAt : ℕ → ℕ
-permittedAt x = 64 + x
-
-abbrev pub assignedAt : ℕ → ℕ
-assignedAt u = 72 + u
-
-abbrev pub grantedAt : ℕ → ℕ → ℕ
-grantedAt x o = 136 + 64 * x + o
-
-abbrev pub ownerAt : ℕ → ℕ
-ownerAt s = 648 + s
-
-abbrev pub activeAt : ℕ → ℕ
-activeAt s = 680 + s
-
-abbrev pub holdsAt : ℕ → ℕ → ℕ
-holdsAt s x = 712 + 8 * s + x
-
--- ---- the state that a table shows
-
-abbrev pub word : List ℕ → ℕ → ℕ
-word t i = getD t i 0
-
-abbrev pub state : List ℕ → State
-state t = record {
-  juniors = λ r. word t (juniorsAt r);
-  permitted = λ x. word t (permittedAt x);
-  assigned = λ u. word t (assignedAt u);
-  granted = λ x o. word t (grantedAt x o);
-  owner = λ s. word t (ownerAt s);
-  active = λ s. word t (activeAt s);
-  holds = λ s x. word t (holdsAt s x);
-}
-
--- ---- the table that shows a state
+isTable t = eqb (length t) 968
 
 -- f 0, f 1, .. , f (n - 1)
 unfoldable pub tabulate : {A : Type 0} → ℕ → (ℕ → A) → List A

@@ -10,10 +10,10 @@ use layout::WORDS;
 ghost use mathlib.Core.Path.{_≡_};
 ghost use Prim.Native.Nat.{_<_};
 ghost use lib.ListN.{length};
-ghost use Rattle.bits.specs.Truth.{_and_};
-ghost use Rattle.bits.specs.Sets.{pack, some, overlap};
-ghost use Rattle.table.specs.State.{permission, covers};
-ghost use Rattle.table.specs.Table.{state};
+ghost use Rattle.bits.specs.Words.{_and_, pack};
+ghost use Rattle.bits.specs.Sets.{some, overlap};
+ghost use Rattle.table.specs.Authority.{permission, covers};
+ghost use Rattle.table.specs.Reading.{state};
 ghost use Rattle.table.specs.Answers;
 ghost use Rattle.table.specs.Answers.{coveredRoles, authorisedRoles, effectivePermissions, activatable, openable, clearedFrom};
 

@@ -4,7 +4,7 @@ use mathlib.Core.Path.{_≡_, refl, ap, ap₂, _∙_}
 use mathlib.Core.Bool.{Bool, true, false}
 use mathlib.Core.List.{List, [], _∷_, _++_}
 use lib.Dec.{eqb}
-use Rattle.bits.specs.Truth.{if_then_else_}
+use Rattle.bits.specs.Words.{if_then_else_}
 use Rattle.roles.specs.Request.{Outcome}
 use Rattle.lines.specs.Reader.{stepOf, finished}
 use Rattle.lines.specs.declared.Reader.the-variants.{Letters}

@@ -6,7 +6,7 @@ use mathlib.Core.List.{List, [], _∷_, _++_, append-assoc}
 use native.Mathlib.Omega.{arith}
 use lib.Dec.{eqb}
 use lib.ListN.{length, drop}
-use Rattle.bits.specs.Truth.{_and_, if_then_else_}
+use Rattle.bits.specs.Words.{_and_, if_then_else_}
 use Rattle.lines.specs.Reader.{stepOf}
 use Rattle.ledger.specs.Step.{Guards}
 use Rattle.transcript.specs.Stream.{Standing, reading, replied, reply, after, emitted, Stop, halt, ahead, full, serving}

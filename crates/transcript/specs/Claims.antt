@@ -1,8 +1,5 @@
 -- What is claimed of transcripts, each as the answer to a question. proofs/Claims.antt proves them.
-use Prim.Native.Nat.{ℕ}
-use mathlib.Core.Path.{_≡_}
-use mathlib.Core.Bool.{true}
-use mathlib.Core.List.{List, [], _++_}
+use Rattle.bits.specs.Words.{ℕ, _≡_, true, List, [], _++_}
 use lib.ListN.{drop}
 use Rattle.output.specs.Text.{header}
 use Rattle.lines.specs.declared.Reader.the-variants.{Letters}

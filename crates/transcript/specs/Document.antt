@@ -1,9 +1,5 @@
 -- The whole output of the transcript program as a function of its whole input: the section of 01 on the program.
-use Prim.Native.Nat.{ℕ, _+_}
-use mathlib.Core.List.{List, [], _∷_, _++_}
-use lib.Dec.{eqb}
-use lib.ListN.{length}
-use Rattle.bits.specs.Truth.{if_then_else_}
+use Rattle.bits.specs.Words.{ℕ, _+_, List, [], _∷_, _++_, eqb, length, if_then_else_}
 use Rattle.table.specs.Table.{tabulate}
 use Rattle.lines.specs.Bytes.{empty}
 use Rattle.lines.specs.Line.{line}

@@ -1,13 +1,7 @@
 -- A transcript byte by byte: where it stands behind each byte, and what each byte makes it write. Claims says that this is
 -- what Document says of the whole input.
-use Prim.Native.Nat.{ℕ, _+_, _-_, _^_, _≤_}
-use mathlib.Core.Path.{_≡_}
-use mathlib.Core.Bool.{Bool, true, false}
-use mathlib.Core.List.{List, [], _∷_, _++_}
-use lib.Dec.{eqb, ltb}
-use lib.ListN.{length}
+use Rattle.bits.specs.Words.{ℕ, _+_, _-_, _^_, _≤_, _≡_, Bool, true, false, List, [], _∷_, _++_, eqb, ltb, length, _and_, _or_, if_then_else_}
 use lib.Seq.{sets}
-use Rattle.bits.specs.Truth.{_and_, _or_, if_then_else_}
 use Rattle.lines.specs.Reader.{stepOf, finished, fresh}
 use Rattle.lines.specs.declared.Reader.{Reader}
 use Rattle.lines.specs.declared.Reader.the-variants.{Letters}

@@ -5,7 +5,7 @@ use mathlib.Core.Path.{_≡_}
 use mathlib.Core.Bool.{true}
 use Rattle.bits.proofs.Truth.{confirmed, refuted}
 use Rattle.bits.proofs.Below.{all-intro, all-fails, widen, Passed, passed-none, passed-more, passed-all}
-use Rattle.table.specs.Table.{state}
+use Rattle.table.specs.Reading.{state}
 use Rattle.table.proofs.Table.{is-table, not-table}
 use Rattle.sound.proofs.Answers.{sound-state, unsound-state}
 use Rattle.alike.specs.Likeness.{sameSession, sameState}

@@ -5,12 +5,11 @@ use mathlib.Core.Path.{_≡_, sym, _∙_}
 use mathlib.Core.Bool.{true}
 use lib.Dec.{eqb}
 use borrow.Author.Tests.{eq-eqb, ne-eqb}
-use Rattle.bits.specs.Truth.{_and_}
-use Rattle.bits.specs.Sets.{pack}
+use Rattle.bits.specs.Words.{_and_, pack}
 use Rattle.bits.proofs.Truth.{and-intro, false-and, and-false}
 use Rattle.bits.proofs.Below.{all-intro, all-fails, widen, Passed, passed-none, passed-more, passed-all}
-use Rattle.table.specs.State.{effective}
-use Rattle.table.specs.Table.{state}
+use Rattle.table.specs.Authority.{effective}
+use Rattle.table.specs.Reading.{state}
 use Rattle.alike.specs.Likeness.{sameSession}
 use Rattle.alike.proofs.Likeness.{mask-at}
 use Rattle.alike.proofs.same_session.Statement.{statement}

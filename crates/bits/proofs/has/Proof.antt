@@ -1,7 +1,7 @@
 -- `bits::has` meets its contract. Assumes nothing.
 use borrow.Author.Needs.{needs}
 use mathlib.Core.Path.{sym}
-use Rattle.bits.specs.Sets.{has}
+use Rattle.bits.specs.Words.{has}
 use Rattle.bits.proofs.Word.{has-past}
 use Rattle.bits.proofs.has.Statement.{statement}
 use Rattle.bits.proofs.has.Tie as tie

@@ -4,8 +4,8 @@ use Prim.Native.Nat.{ℕ}
 use mathlib.Core.Path.{sym, ap, ap₂, _∙_}
 use mathlib.Core.List.{List}
 use Rattle.table.proofs.Table.{is-table, not-table}
+use Rattle.machine.specs.Wall.{trace, final}
 use Rattle.labels.specs.Guard.{imageStep}
-use Rattle.demand.specs.Demand.{replies, final}
 use Rattle.demand.specs.Run.{asks, flat, kept}
 use Rattle.demand.proofs.Running.{three, run-short, run-unpaired, odd-words, other-replies, is-paired, run-refused, run-accepted}
 use Rattle.demand.proofs.run.Statement.{statement}
@@ -60,7 +60,7 @@ returns-5 c =
     (sym (told .before .number .ensures ∙ done .label-setup .ensures .0) ∙ told .if4 .left)
     ∙ ap₂ (kept 1)
     (sym (served .serve-all .ensures .0 ∙ ap (λ (l : List ℕ). final imageStep l (asks (a .words .now))) z))
-    (sym (served .serve-all .ensures .1 ∙ ap (λ (l : List ℕ). flat (replies imageStep l (asks (a .words .now)))) z)))
+    (sym (served .serve-all .ensures .1 ∙ ap (λ (l : List ℕ). flat (trace imageStep l (asks (a .words .now)))) z)))
 
 pub run-spec : {M : Type 1} → statement M
 run-spec =

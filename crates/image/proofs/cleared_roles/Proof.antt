@@ -2,7 +2,7 @@
 use borrow.Author.Needs.{needs}
 use Prim.Native.Nat.{ℕ}
 use mathlib.Core.Path.{ap, _∙_}
-use Rattle.bits.specs.Sets.{_with_}
+use Rattle.bits.specs.Words.{_with_}
 use Rattle.image.specs.Image.{clearedRoles}
 use Rattle.image.proofs.cleared_roles.Statement.{statement}
 use Rattle.image.proofs.cleared_roles.Tie as tie

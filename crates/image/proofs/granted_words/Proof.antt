@@ -4,7 +4,7 @@ use Prim.Native.Nat.{_+_, _-_}
 use mathlib.Core.Path.{refl}
 use native.Mathlib.Omega.{arith}
 use lib.ListN.{getD}
-use Rattle.bits.specs.Sets.{_with_}
+use Rattle.bits.specs.Words.{_with_}
 use Rattle.bits.proofs.Below.{widen}
 use Rattle.table.proofs.Tabulate.{Filling, fill-start, fill-step, fill-end}
 use Rattle.image.proofs.granted_words.Statement.{statement}

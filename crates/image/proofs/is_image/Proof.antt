@@ -3,8 +3,7 @@ use borrow.Author.Needs.{needs}
 use mathlib.Core.Path.{sym, _∙_}
 use Rattle.bits.proofs.Truth.{confirmed, refuted, true-and, false-and}
 use Rattle.table.proofs.Table.{is-table, not-table}
-use Rattle.image.specs.Image.{isImage}
-use Rattle.image.specs.Test.{showsImage}
+use Rattle.image.specs.Test.{isImage, showsImage}
 use Rattle.image.proofs.is_image.Statement.{statement}
 use Rattle.image.proofs.is_image.Tie as tie
 

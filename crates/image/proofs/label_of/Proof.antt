@@ -1,6 +1,6 @@
 -- `label_of` meets its contract. Assumes nothing.
 use borrow.Author.Needs.{needs}
-use Rattle.image.specs.Image.{labelOf}
+use Rattle.image.specs.Test.{labelOf}
 use Rattle.image.proofs.label_of.Statement.{statement}
 use Rattle.image.proofs.label_of.Tie as tie
 

@@ -5,12 +5,12 @@ use mathlib.Core.Path.{_≡_, sym, ap, _∙_}
 use mathlib.Core.Bool.{true}
 use lib.Dec.{eqb}
 use borrow.Author.Tests.{eq-eqb, ne-eqb}
-use Rattle.bits.specs.Truth.{_and_}
-use Rattle.bits.specs.Sets.{_with_}
+use Rattle.bits.specs.Words.{_and_, _with_}
 use Rattle.bits.proofs.Truth.{and-intro, false-and, and-false}
 use Rattle.bits.proofs.Below.{all-intro, all-fails, Passed, passed-none, passed-more, passed-all}
-use Rattle.table.specs.Table.{state}
-use Rattle.image.specs.Image.{grantedRoles, machineOf, objectsFit}
+use Rattle.table.specs.Reading.{state}
+use Rattle.image.specs.Image.{grantedRoles}
+use Rattle.image.specs.Test.{machineOf, objectsFit}
 use Rattle.image.proofs.objects_fit.Statement.{statement}
 use Rattle.image.proofs.objects_fit.Tie as tie
 

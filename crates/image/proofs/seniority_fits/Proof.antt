@@ -5,10 +5,11 @@ use mathlib.Core.Path.{_≡_, sym, _∙_}
 use mathlib.Core.Bool.{true}
 use lib.Dec.{eqb}
 use borrow.Author.Tests.{eq-eqb, ne-eqb}
-use Rattle.bits.specs.Sets.{pack}
+use Rattle.bits.specs.Words.{pack}
 use Rattle.bits.proofs.Below.{all-intro, all-fails, Passed, passed-none, passed-more, passed-all}
-use Rattle.table.specs.Table.{state}
-use Rattle.image.specs.Image.{above, seniorityFits}
+use Rattle.table.specs.Reading.{state}
+use Rattle.image.specs.Image.{above}
+use Rattle.image.specs.Test.{seniorityFits}
 use Rattle.image.proofs.Rows.{row-is}
 use Rattle.image.proofs.seniority_fits.Statement.{statement}
 use Rattle.image.proofs.seniority_fits.Tie as tie

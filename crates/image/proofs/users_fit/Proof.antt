@@ -6,8 +6,9 @@ use mathlib.Core.Bool.{true}
 use lib.Dec.{eqb}
 use borrow.Author.Tests.{eq-eqb, ne-eqb}
 use Rattle.bits.proofs.Below.{all-intro, all-fails, Passed, passed-none, passed-more, passed-all}
-use Rattle.table.specs.Table.{state}
-use Rattle.image.specs.Image.{clearedRoles, machineOf, usersFit}
+use Rattle.table.specs.Reading.{state}
+use Rattle.image.specs.Image.{clearedRoles}
+use Rattle.image.specs.Test.{machineOf, usersFit}
 use Rattle.image.proofs.users_fit.Statement.{statement}
 use Rattle.image.proofs.users_fit.Tie as tie
 

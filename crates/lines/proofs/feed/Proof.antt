@@ -5,10 +5,9 @@ use mathlib.Core.Path.{_≡_, _∙_, sym}
 use borrow.Author.Tests.{eq-eqb, ne-eqb}
 use native.Mathlib.Numerals.{add-one}
 use lib.Seq.{drop-cons}
-use lib.ListN.{drop-of-length-le}
+use lib.ListN.{drop-of-length-le, length, drop}
 use denote.Ref.{now}
-use lib.ListN.{length, drop}
-use Rattle.bits.specs.Truth.{if_then_else_}
+use Rattle.bits.specs.Words.{if_then_else_}
 use Rattle.lines.specs.Reader.{fed}
 use Rattle.lines.proofs.feed.Statement.{statement}
 use Rattle.lines.proofs.feed.Tie as tie

@@ -1,7 +1,7 @@
 -- `word_of` meets its contract: each number that the match tells apart is a word's letters packed. Assumes nothing.
 use mathlib.Core.Path.{sym, ap}
 use borrow.Author.Tests.{ne-eqb}
-use Rattle.bits.specs.Truth.{if_then_else_}
+use Rattle.bits.specs.Words.{if_then_else_}
 use Rattle.lines.specs.Reader.{wordOf}
 use Rattle.lines.proofs.word_of.Statement.{statement}
 use Rattle.lines.proofs.word_of.Tie as tie

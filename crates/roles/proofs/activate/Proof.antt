@@ -4,7 +4,7 @@ use Prim.Native.Nat.{ℕ}
 use mathlib.Core.Path.{refl, ap, _∙_}
 use lib.ListN.{set}
 use Rattle.bits.proofs.Truth.{confirmed, refuted}
-use Rattle.table.specs.Table.{activeAt, state}
+use Rattle.table.specs.Reading.{activeAt, state}
 use Rattle.table.proofs.Encode.{encode-state, write-active}
 use Rattle.table.proofs.Answers.{activatable-known}
 use Rattle.roles.specs.Roles.{changed}

@@ -3,7 +3,7 @@ use borrow.Author.Needs.{needs}
 use Prim.Native.Nat.{ℕ}
 use mathlib.Core.Path.{refl, ap, _∙_}
 use lib.ListN.{set}
-use Rattle.table.specs.Table.{holdsAt, state}
+use Rattle.table.specs.Reading.{holdsAt, state}
 use Rattle.table.proofs.Encode.{encode-state, write-holds}
 use Rattle.roles.specs.Roles.{changed}
 use Rattle.roles.specs.Guard.{allowedSound}

@@ -4,7 +4,8 @@ use Prim.Native.Nat.{_-_, _≤_}
 use mathlib.Core.Path.{_≡_, refl}
 use native.Mathlib.Omega.{arith}
 use lib.ListN.{length, length-set}
-use Rattle.table.specs.Table.{state, encode}
+use Rattle.table.specs.Reading.{state}
+use Rattle.table.specs.Table.{encode}
 use Rattle.table.proofs.Encode.{encode-state}
 use Rattle.roles.specs.Served.{closedAll}
 use Rattle.roles.proofs.Closing.{closing, closing-none, closing-more, closing-all}

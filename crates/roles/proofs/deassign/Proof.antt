@@ -4,7 +4,7 @@ use Prim.Native.Nat.{ℕ}
 use mathlib.Core.Path.{ap, _∙_}
 use native.Mathlib.Omega.{arith}
 use lib.ListN.{set, length-set}
-use Rattle.table.specs.Table.{assignedAt, state}
+use Rattle.table.specs.Reading.{assignedAt, state}
 use Rattle.table.proofs.Encode.{encode-state, write-assigned}
 use Rattle.sound.proofs.Answers.{sessions-shown}
 use Rattle.roles.specs.Roles.{deassigns, changed}

@@ -4,7 +4,7 @@ use Prim.Native.Nat.{ℕ}
 use mathlib.Core.Path.{ap, _∙_}
 use native.Mathlib.Omega.{arith}
 use lib.ListN.{set, length-set}
-use Rattle.table.specs.Table.{activeAt, state}
+use Rattle.table.specs.Reading.{activeAt, state}
 use Rattle.table.proofs.Encode.{encode-state, write-active}
 use Rattle.sound.proofs.Answers.{openings-shown}
 use Rattle.roles.specs.Roles.{drops, changed}

@@ -6,7 +6,7 @@ use native.Mathlib.Omega.{arith}
 use lib.ListN.{length-set}
 use borrow.Author.Tests.{eq-eqb, ne-eqb}
 use Rattle.bits.proofs.Truth.{not-intro}
-use Rattle.table.specs.Table.{state}
+use Rattle.table.specs.Reading.{state}
 use Rattle.table.proofs.Encode.{encode-state, write-owner, write-active}
 use Rattle.roles.specs.Roles.{changed}
 use Rattle.roles.specs.Guard.{allowedSound}

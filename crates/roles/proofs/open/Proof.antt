@@ -4,7 +4,7 @@ use Prim.Native.Nat.{ℕ}
 use mathlib.Core.Path.{refl, ap, _∙_}
 use lib.ListN.{set}
 use Rattle.bits.proofs.Truth.{confirmed, refuted}
-use Rattle.table.specs.Table.{holdsAt, state}
+use Rattle.table.specs.Reading.{holdsAt, state}
 use Rattle.table.proofs.Encode.{encode-state, write-holds}
 use Rattle.table.proofs.Answers.{openable-is}
 use Rattle.roles.specs.Roles.{changed}

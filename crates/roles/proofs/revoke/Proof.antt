@@ -4,7 +4,7 @@ use Prim.Native.Nat.{ℕ}
 use mathlib.Core.Path.{ap, _∙_}
 use native.Mathlib.Omega.{arith}
 use lib.ListN.{set, length-set}
-use Rattle.table.specs.Table.{grantedAt, state}
+use Rattle.table.specs.Reading.{grantedAt, state}
 use Rattle.table.proofs.Encode.{encode-state, write-granted}
 use Rattle.sound.proofs.Answers.{holders-shown}
 use Rattle.roles.specs.Roles.{revokes, changed}

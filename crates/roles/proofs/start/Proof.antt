@@ -6,7 +6,7 @@ use native.Mathlib.Numerals.{add-one}
 use native.Mathlib.Omega.{arith}
 use lib.ListN.{set, length-set}
 use borrow.Author.Tests.{eq-eqb, ne-eqb}
-use Rattle.table.specs.Table.{ownerAt, state}
+use Rattle.table.specs.Reading.{ownerAt, state}
 use Rattle.table.proofs.Encode.{encode-state, write-owner, write-active}
 use Rattle.roles.specs.Roles.{changed}
 use Rattle.roles.specs.Guard.{allowedSound}

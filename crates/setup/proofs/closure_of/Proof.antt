@@ -4,7 +4,7 @@ use Prim.Native.Nat.{_-_, _≤_}
 use mathlib.Core.Path.{_≡_, refl, _∙_}
 use native.Mathlib.Omega.{arith}
 use lib.ListN.{length, getD}
-use Rattle.bits.specs.Sets.{_with_}
+use Rattle.bits.specs.Words.{_with_}
 use Rattle.table.specs.Table.{tabulate}
 use Rattle.table.proofs.Tabulate.{Filling, fill-start, fill-step, fill-end}
 use Rattle.setup.specs.Closure.{through}

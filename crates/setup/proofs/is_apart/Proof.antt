@@ -4,8 +4,7 @@ use mathlib.Core.Path.{sym, _∙_}
 use lib.Dec.{eqb}
 use lib.ListN.{getD}
 use borrow.Author.Tests.{eq-eqb, ne-eqb}
-use Rattle.bits.specs.Truth.{_implies_}
-use Rattle.bits.specs.Sets.{has}
+use Rattle.bits.specs.Words.{_implies_, has}
 use Rattle.bits.proofs.Truth.{implies-intro, implies-fails, clash}
 use Rattle.bits.proofs.Walk.{Testing, test-start, test-step, test-fails, test-end}
 use Rattle.setup.proofs.is_apart.Statement.{statement}

@@ -4,8 +4,8 @@ use Prim.Native.Nat.{ℕ, _-_, _≤_, _<_}
 use mathlib.Core.Path.{refl, ap, _∙_}
 use native.Mathlib.Omega.{arith}
 use lib.ListN.{length, getD}
-use Rattle.bits.specs.Truth.{if_then_else_}
-use Rattle.bits.specs.Sets.{has, join}
+use Rattle.bits.specs.Words.{if_then_else_, has}
+use Rattle.bits.specs.Sets.{join}
 use Rattle.table.specs.Table.{tabulate}
 use Rattle.table.proofs.Tabulate.{Writing, write-start, write-step, write-end}
 use Rattle.setup.specs.Closure.{via}

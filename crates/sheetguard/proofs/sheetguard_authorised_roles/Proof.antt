@@ -1,10 +1,9 @@
 -- `sheetguard_authorised_roles` meets its contract: the refusals in their order, then the words. Assumes nothing.
 use borrow.Author.Needs.{needs}
-use Prim.Native.Nat.{ℕ}
+use Prim.Native.Nat.{ℕ, suc-le-suc}
 use mathlib.Core.Path.{sym, ap, _∙_}
 use mathlib.Core.List.{List, [], _∷_}
 use borrow.Author.Tests.{eq-eqb, ne-eqb, lt-ltb, le-ltb}
-use Prim.Native.Nat.{suc-le-suc}
 use Rattle.bits.proofs.Truth.{confirmed, refuted, and-intro, false-and, and-false}
 use Rattle.table.specs.Answers.{authorisedRoles}
 use Rattle.table.proofs.Table.{is-table, not-table}

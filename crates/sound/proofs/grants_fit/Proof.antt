@@ -5,7 +5,7 @@ use mathlib.Core.Path.{_≡_, sym, _∙_}
 use mathlib.Core.Bool.{true}
 use Rattle.bits.proofs.Truth.{confirmed, refuted}
 use Rattle.bits.proofs.Below.{all-intro, all-fails, Passed, passed-none, passed-more, passed-all}
-use Rattle.table.specs.Table.{state}
+use Rattle.table.specs.Reading.{state}
 use Rattle.sound.specs.Tests.{grantFits, grantsFit}
 use Rattle.sound.proofs.Grants.{none-fits}
 use Rattle.sound.proofs.grants_fit.Statement.{statement}

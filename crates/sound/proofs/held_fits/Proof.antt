@@ -4,7 +4,7 @@ use mathlib.Core.Path.{sym}
 use Rattle.bits.specs.Sets.{overlap}
 use Rattle.bits.proofs.Truth.{confirmed, refuted}
 use Rattle.bits.proofs.Walk.{Testing, test-start, test-step, test-fails, test-end}
-use Rattle.table.specs.Table.{state}
+use Rattle.table.specs.Reading.{state}
 use Rattle.sound.specs.Tests.{heldFits}
 use Rattle.sound.proofs.held_fits.Statement.{statement}
 use Rattle.sound.proofs.held_fits.Tie as tie

@@ -4,10 +4,10 @@ use Prim.Native.Nat.{_-_, suc-le-suc}
 use mathlib.Core.Path.{_≡_, sym, _∙_}
 use mathlib.Core.Bool.{true}
 use mathlib.Core.Logic.{⊎-elim}
-use Rattle.bits.specs.Sets.{has}
+use Rattle.bits.specs.Words.{has}
 use Rattle.bits.proofs.Truth.{clash, confirmed, refuted}
 use Rattle.bits.proofs.Below.{widen, Passed, passed-none, passed-more, passed-all}
-use Rattle.table.specs.Table.{state}
+use Rattle.table.specs.Reading.{state}
 use Rattle.table.specs.Answers.{openable}
 use Rattle.sound.proofs.Answers.{holders-fail, holders-hold, holders-short, holders-past-mode, holders-past-object}
 use Rattle.sound.proofs.holders_fit.Statement.{statement}

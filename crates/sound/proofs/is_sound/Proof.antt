@@ -6,7 +6,7 @@ use mathlib.Core.Bool.{true}
 use native.Mathlib.Omega.{arith}
 use Rattle.bits.proofs.Truth.{confirmed, refuted}
 use Rattle.bits.proofs.Below.{widen, Passed, passed-none, passed-more, passed-all}
-use Rattle.table.specs.Table.{state}
+use Rattle.table.specs.Reading.{state}
 use Rattle.table.proofs.Table.{is-table}
 use Rattle.table.proofs.Answers.{covered-roles-are}
 use Rattle.sound.specs.Tests.{roleFits, grantsFit, heldFits}

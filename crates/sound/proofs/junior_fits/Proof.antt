@@ -1,8 +1,7 @@
 -- `junior_fits` meets its contract. Assumes nothing.
 use borrow.Author.Needs.{needs}
-use mathlib.Core.Path.{sym, _∙_}
+use mathlib.Core.Path.{sym, _∙_, ap}
 use Rattle.bits.proofs.Truth.{true-and, false-and, not-intro}
-use mathlib.Core.Path.{ap}
 use mathlib.Core.Bool.{not}
 use Rattle.sound.specs.Tests.{juniorFits}
 use Rattle.sound.proofs.junior_fits.Statement.{statement}

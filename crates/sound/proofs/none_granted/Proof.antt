@@ -1,7 +1,7 @@
 -- `none_granted` meets its contract: the roles of the objects passed are gathered. Assumes nothing.
 use borrow.Author.Needs.{needs}
 use Prim.Native.Nat.{_-_}
-use Rattle.table.specs.Table.{state}
+use Rattle.table.specs.Reading.{state}
 use Rattle.sound.proofs.Grants.{Gathering, gather-start, gather-step, gather-end}
 use Rattle.sound.proofs.none_granted.Statement.{statement}
 use Rattle.sound.proofs.none_granted.Tie as tie

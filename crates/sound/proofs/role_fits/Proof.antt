@@ -5,7 +5,7 @@ use Rattle.bits.specs.Sets.{_without_}
 use Rattle.bits.proofs.Truth.{confirmed, refuted, true-and, false-and, and-false}
 use Rattle.bits.proofs.Word.{without-lt}
 use Rattle.bits.proofs.Walk.{Testing, test-start, test-step, test-fails, test-end}
-use Rattle.table.specs.Table.{state}
+use Rattle.table.specs.Reading.{state}
 use Rattle.sound.specs.Tests.{juniorFits, roleFits}
 use Rattle.sound.proofs.role_fits.Statement.{statement}
 use Rattle.sound.proofs.role_fits.Tie as tie

@@ -3,9 +3,9 @@ use borrow.Author.Needs.{needs}
 use Prim.Native.Nat.{ℕ}
 use mathlib.Core.Path.{sym, ap, _∙_}
 use native.Mathlib.Omega.{arith}
-use Rattle.bits.specs.Sets.{subset}
-use Rattle.table.specs.State.{user}
-use Rattle.table.specs.Table.{state}
+use Rattle.bits.specs.Words.{subset}
+use Rattle.table.specs.Authority.{user}
+use Rattle.table.specs.Reading.{state}
 use Rattle.table.proofs.Table.{in-table}
 use Rattle.table.proofs.Answers.{authorised-roles-are}
 use Rattle.sound.proofs.Items.{roles-past, roles-idle, roles-busy}

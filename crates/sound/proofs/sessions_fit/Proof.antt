@@ -5,10 +5,10 @@ use mathlib.Core.Path.{_≡_, sym, _∙_}
 use mathlib.Core.Bool.{true}
 use mathlib.Core.Logic.{⊎-elim}
 use native.Mathlib.Numerals.{add-one}
-use Rattle.bits.specs.Sets.{subset}
+use Rattle.bits.specs.Words.{subset}
 use Rattle.bits.proofs.Truth.{confirmed, refuted}
 use Rattle.bits.proofs.Below.{widen, Passed, passed-none, passed-more, passed-all}
-use Rattle.table.specs.Table.{state}
+use Rattle.table.specs.Reading.{state}
 use Rattle.sound.proofs.Answers.{sessions-fail, sessions-hold, sessions-short, sessions-past}
 use Rattle.sound.proofs.sessions_fit.Statement.{statement}
 use Rattle.sound.proofs.sessions_fit.Tie as tie

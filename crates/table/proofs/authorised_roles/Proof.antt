@@ -3,7 +3,7 @@ use borrow.Author.Needs.{needs}
 use native.Mathlib.Omega.{arith}
 use mathlib.Core.Path.{_∙_}
 use Rattle.table.proofs.Table.{in-table, short-table, past-table}
-use Rattle.table.specs.State.{authorised}
+use Rattle.table.specs.Authority.{authorised}
 use Rattle.table.proofs.Answers.{authorised-roles-none, authorised-roles-are}
 use Rattle.table.proofs.authorised_roles.Statement.{statement}
 use Rattle.table.proofs.authorised_roles.Tie as tie

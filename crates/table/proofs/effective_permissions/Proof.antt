@@ -4,9 +4,9 @@ use borrow.Author.Needs.{needs}
 use Prim.Native.Nat.{_-_}
 use mathlib.Core.Path.{refl, _∙_}
 use native.Mathlib.Omega.{arith}
-use Rattle.bits.specs.Sets.{pack}
-use Rattle.table.specs.Table.{state}
-use Rattle.table.specs.State.{effective}
+use Rattle.bits.specs.Words.{pack}
+use Rattle.table.specs.Reading.{state}
+use Rattle.table.specs.Authority.{effective}
 use Rattle.table.proofs.Tabulate.{Filling, fill-start, fill-step, fill-end}
 use Rattle.table.proofs.Table.{in-table, short-table, past-table}
 use Rattle.table.proofs.Answers.{effective-permissions-none, effective-permissions-are, granted-effective}

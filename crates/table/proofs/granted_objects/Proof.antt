@@ -4,7 +4,7 @@ use borrow.Author.Needs.{needs}
 use mathlib.Core.Path.{sym, _∙_}
 use Rattle.bits.specs.Sets.{overlap}
 use Rattle.bits.proofs.Walk.{Picking, pick-start, pick-take, pick-pass, pick-end}
-use Rattle.table.specs.Table.{state}
+use Rattle.table.specs.Reading.{state}
 use Rattle.table.proofs.Answers.{granted-none}
 use Rattle.table.proofs.granted_objects.Statement.{statement}
 use Rattle.table.proofs.granted_objects.Tie as tie

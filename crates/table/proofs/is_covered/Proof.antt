@@ -3,7 +3,7 @@ use borrow.Author.Needs.{needs}
 use mathlib.Core.Path.{sym, _∙_}
 use Rattle.bits.specs.Sets.{overlap}
 use Rattle.bits.proofs.Walk.{Seeking, seek-start, seek-step, seek-found, seek-end}
-use Rattle.table.specs.Table.{state}
+use Rattle.table.specs.Reading.{state}
 use Rattle.table.proofs.is_covered.Statement.{statement}
 use Rattle.table.proofs.is_covered.Tie as tie
 

@@ -4,7 +4,7 @@ use mathlib.Core.Path.{sym, _∙_}
 use native.Mathlib.Omega.{arith}
 use Rattle.bits.specs.Sets.{overlap}
 use Rattle.bits.proofs.Truth.{clash, confirmed, refuted, true-and}
-use Rattle.table.specs.State.{effective}
+use Rattle.table.specs.Authority.{effective}
 use Rattle.table.proofs.State.{effective-elim}
 use Rattle.table.proofs.Answers.{openable-is, not-openable}
 use Rattle.table.proofs.is_effective.Statement.{statement}

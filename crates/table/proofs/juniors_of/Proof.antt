@@ -1,8 +1,8 @@
 -- `juniors_of` meets its contract: the juniors of the roles passed are gathered, and those of `left` are to come. Assumes nothing.
 use borrow.Author.Needs.{needs}
 use Rattle.bits.proofs.Walk.{Joining, join-start, join-step, join-end}
-use Rattle.table.specs.Table.{state}
-use Rattle.table.specs.State.{covers}
+use Rattle.table.specs.Reading.{state}
+use Rattle.table.specs.Authority.{covers}
 use Rattle.table.proofs.juniors_of.Statement.{statement}
 use Rattle.table.proofs.juniors_of.Tie as tie
 

@@ -4,10 +4,10 @@ use Prim.Native.Nat.{ℕ}
 use mathlib.Core.Path.{sym, ap, _∙_}
 use native.Mathlib.Omega.{arith}
 use borrow.Author.Tests.{eq-eqb, ne-eqb}
-use Rattle.bits.specs.Sets.{has}
+use Rattle.bits.specs.Words.{has}
 use Rattle.bits.proofs.Truth.{clash}
 use Rattle.bits.proofs.Word.{has-pack}
-use Rattle.table.specs.State.{authorised}
+use Rattle.table.specs.Authority.{authorised}
 use Rattle.table.proofs.State.{may-activate-idle, may-activate-busy}
 use Rattle.table.proofs.Answers.{activatable-is, not-activatable}
 use Rattle.table.proofs.may_activate.Statement.{statement}

@@ -1,7 +1,7 @@
 -- `finish` meets its contract. Assumes nothing.
 use borrow.Author.Needs.{needs}
 use Rattle.lines.specs.Reader.{begun, stepOf, ended, finished}
-use Rattle.bits.specs.Truth.{_and_, if_then_else_}
+use Rattle.bits.specs.Words.{_and_, if_then_else_}
 use Rattle.lines.proofs.Reader.finish.Statement.{statement}
 use Rattle.lines.proofs.Reader.finish.Tie as tie
 

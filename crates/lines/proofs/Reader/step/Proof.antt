@@ -3,7 +3,7 @@ use borrow.Author.Needs.{needs}
 use borrow.Author.Tests.{ne-eqb, le-leb, lt-leb, lt-ltb, le-ltb}
 use native.Mathlib.Omega.{arith}
 use Prim.Native.Nat.{_+_, _*_, _-_, _^_, _<_, _≤_}
-use Rattle.bits.specs.Truth.{_and_, if_then_else_}
+use Rattle.bits.specs.Words.{_and_, if_then_else_}
 use Rattle.lines.specs.Reader.{stepOf, begun}
 use Rattle.lines.proofs.Reader.step.Statement.{statement}
 use Rattle.lines.proofs.Reader.step.Tie as tie

@@ -1,7 +1,7 @@
 -- `Label::dominates` meets its contract. Assumes nothing.
 use borrow.Author.Needs.{needs}
 use mathlib.Core.Path.{sym, ap₂, _∙_}
-use Rattle.bits.specs.Sets.{subset}
+use Rattle.bits.specs.Words.{subset}
 use Rattle.machine.proofs.Order.{class-below, class-enough}
 use Rattle.machine.proofs.Label.dominates.Statement.{statement}
 use Rattle.machine.proofs.Label.dominates.Tie as tie

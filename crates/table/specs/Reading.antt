@@ -1,0 +1,47 @@
+-- The state that a table shows, and where each of its words stands. Nothing else mentions a place in the table. Words that a
+-- shorter list lacks read as 0.
+use Rattle.bits.specs.Words.{ℕ, _+_, _*_, List, getD}
+use Rattle.table.specs.State.{State}
+
+-- the number of words of a table
+abbrev pub tableLength : ℕ
+tableLength = 968
+
+-- ---- where each word stands
+
+abbrev pub juniorsAt : ℕ → ℕ
+juniorsAt r = r
+
+abbrev pub permittedAt : ℕ → ℕ
+permittedAt x = 64 + x
+
+abbrev pub assignedAt : ℕ → ℕ
+assignedAt u = 72 + u
+
+abbrev pub grantedAt : ℕ → ℕ → ℕ
+grantedAt x o = 136 + 64 * x + o
+
+abbrev pub ownerAt : ℕ → ℕ
+ownerAt s = 648 + s
+
+abbrev pub activeAt : ℕ → ℕ
+activeAt s = 680 + s
+
+abbrev pub holdsAt : ℕ → ℕ → ℕ
+holdsAt s x = 712 + 8 * s + x
+
+-- ---- the state that a table shows
+
+abbrev pub word : List ℕ → ℕ → ℕ
+word t i = getD t i 0
+
+abbrev pub state : List ℕ → State
+state t = record {
+  juniors = λ r. word t (juniorsAt r);
+  permitted = λ x. word t (permittedAt x);
+  assigned = λ u. word t (assignedAt u);
+  granted = λ x o. word t (grantedAt x o);
+  owner = λ s. word t (ownerAt s);
+  active = λ s. word t (activeAt s);
+  holds = λ s x. word t (holdsAt s x);
+}
