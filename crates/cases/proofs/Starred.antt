@@ -2,31 +2,28 @@
 -- nothing.
 use Prim.Native.Nat.{ℕ}
 use mathlib.Core.Path.{_≡_, refl, sym, ap, subst, _∙_}
-use mathlib.Core.Bool.{Bool, true, not}
+use mathlib.Core.Bool.{true}
 use mathlib.Core.List.{List, [], _∷_}
-use lib.Dec.{eqb}
-use lib.ListN.{length}
 use Rattle.bits.specs.Words.{_and_, _or_, _implies_, if_then_else_, upd, has, all, each, subset, bit, pack, _with_}
-use Rattle.bits.specs.Sets.{any, some, overlap, _without_, join, least, lowest}
+use Rattle.bits.specs.Sets.{any, some, overlap, _without_, join}
 use Rattle.table.specs.State.{State}
 use Rattle.table.specs.Authority.{covers, authorised, mayActivate, effective}
 use Rattle.table.specs.Sound.{Sound}
-use Rattle.table.specs.Reading.{tableLength}
 use Rattle.table.specs.Table.{tabulate, encode}
 use Rattle.table.proofs.Table.{is-table}
 use Rattle.table.proofs.Tabulate.{length-tabulate}
 use Rattle.sound.specs.Answers.{isSound, openingsFit, sessionsFit, pairFits}
-use Rattle.roles.specs.Request.{Ask, Outcome, within}
+use Rattle.roles.specs.Request.{Outcome, within}
 use Rattle.roles.specs.Roles.{isCode, limits, inRange, decode, known, changed}
-use Rattle.roles.specs.Guard.{roleStep, allowedSound}
-use Rattle.roles.proofs.Playing.{Move, stay, move, Moved, moved}
-use Rattle.roles.proofs.Requests.{accept-is, sound-encode}
+use Rattle.roles.specs.Guard.{allowedSound}
+use Rattle.roles.proofs.Playing.{stay, move, moved}
+use Rattle.roles.proofs.Requests.{sound-encode}
 use Rattle.setup.specs.Closure.{via, through, closure, acyclic}
 use Rattle.setup.specs.SetUp.{fresh, roleSetUp}
 use Rattle.setup.proofs.Claims.{set-up-sound}
 use Rattle.setup.proofs.SetUp.{set-up-accepted}
 use Rattle.machine.specs.Label.{class, brands, dominates}
-use Rattle.cases.specs.Cases.{Row, asked, holds, direct, permissions, starred, Met, Starred, StarredCases}
+use Rattle.cases.specs.Cases.{Row, asked, holds, direct, permissions, starred, Met, StarredCases}
 
 -- ---- the set-up, worked out
 
@@ -65,7 +62,7 @@ shown = (refl, (refl, (refl, (refl, (refl, (refl, (refl, (refl, (refl, (refl, (r
 pub starred-cases : StarredCases
 unfolding direct permissions
 starred-cases t e =
-    let a = set-up-accepted t direct permissions (is-table t e) (length-tabulate 64 _) refl (ap acyclic closed ∙ no-cycle) ∙ accept-is _ in
+    let a = set-up-accepted t direct permissions (is-table t e) (length-tabulate 64 _) refl (ap acyclic closed ∙ no-cycle) in
     let z : roleSetUp t direct permissions .state ≡ encode (fresh rows permissions) =
     ap (λ (o : Outcome (List ℕ)). o .state) a ∙ ap (λ (l : List ℕ). encode (fresh l permissions)) closed in
     let b = ap (λ (o : Outcome (List ℕ)). o .answer) a in

@@ -1,7 +1,6 @@
 // Runs the bench cases of the scope and the vectors of the sources through the compiled guard, and writes a row for each: its
 // number, its answer, and what it spent. Rows from 101: A to H and J; from 201: vector A of source 000; from 301: the scope's
 // label listing, and label 32; from 401: labels that are easily confused; from 501: dominance; from 601: wrong lengths and values.
-ghost use mathlib.Core.Path.{_≡_};
 ghost use Prim.Native.Nat.{_≤_};
 ghost use lib.ListN.{length};
 use libc::STDOUT_FILENO;

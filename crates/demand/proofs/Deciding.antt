@@ -6,7 +6,6 @@ use mathlib.Core.List.{List}
 use Rattle.bits.proofs.Truth.{by-truth}
 use Rattle.roles.specs.Request.{Ask, Outcome, refuse, decide}
 use Rattle.roles.specs.Guard.{roleStep}
-use Rattle.roles.proofs.Requests.{refuse-is}
 use Rattle.roles.proofs.Serving.{decide-yes, decide-no}
 use Rattle.machine.specs.Machine.{Machine}
 use Rattle.image.specs.Image.{image}
@@ -48,16 +47,14 @@ answered-on {q = q} e a = record {
 
 -- ---- the machine's outcomes, with the image in place of the state
 
-unfoldable pub pictured : Outcome Machine → Outcome (List ℕ)
+abbrev pub pictured : Outcome Machine → Outcome (List ℕ)
 pictured o = record { answer = o .answer; spent = o .spent; state = image (o .state) }
 
 pub picture-decide : (b : Bool) (y n : ℕ) (new old : Machine) → pictured (decide b y n new old) ≡ decide b y n (image new) (image old)
-unfolding pictured
 picture-decide b y n new old =
     by-truth b
     (λ z. ap pictured (decide-yes y n new old z) ∙ sym (decide-yes y n (image new) (image old) z))
     (λ z. ap pictured (decide-no y n new old z) ∙ sym (decide-no y n (image new) (image old) z))
 
 pub picture-refuse : (n : ℕ) (m : Machine) → pictured (refuse n m) ≡ refuse n (image m)
-unfolding pictured
-picture-refuse n m = ap pictured (refuse-is n m) ∙ sym (refuse-is n (image m))
+picture-refuse n m = refl

@@ -1,13 +1,14 @@
 -- Demand 3: by induction over the list of requests. Assumes nothing.
 use Prim.Native.Nat.{ℕ}
-use mathlib.Core.Path.{_≡_, refl, sym, ap, subst, _∙_}
+use mathlib.Core.Path.{_≡_, sym, ap, subst}
 use mathlib.Core.Bool.{true}
-use mathlib.Core.List.{List, [], _∷_}
+use mathlib.Core.List.{List}
 use lib.ListN.{getD}
 use Rattle.roles.specs.Request.{Ask, Outcome}
 use Rattle.machine.specs.Label.{dominates}
 use Rattle.machine.specs.Machine.{Machine, step, begin}
 use Rattle.machine.specs.Wall.{Event, trace, final, Carried}
+use Rattle.machine.proofs.Tracing.{trace-same, final-same}
 use Rattle.machine.proofs.Wall.{walled}
 use Rattle.image.specs.Image.{image}
 use Rattle.image.specs.SetUp.{labelSetUp}
@@ -21,18 +22,10 @@ use Rattle.demand.proofs.Simulation.{Good, one-step, next-good}
 
 module _ (guard : List ℕ → Ask → Outcome (List ℕ)) (same : (m : Machine) → Good m → (q : Ask) → guard (image m) q ≡ pictured (step m q)) where
   pub trace-agrees : (qs : List Ask) (m : Machine) → Good m → trace guard (image m) qs ≡ trace step m qs
-  unfolding trace pictured
-  trace-agrees [] m g = refl
-  trace-agrees (q ∷ qs) m g =
-      ap (λ (o : Outcome (List ℕ)). record { asked = q; answer = o .answer; spent = o .spent } ∷ trace guard (o .state) qs) (same m g q)
-      ∙ ap (λ (l : List Event). record { asked = q; answer = step m q .answer; spent = step m q .spent } ∷ l)
-      (trace-agrees qs (step m q .state) (next-good m g q))
+  trace-agrees = trace-same guard step image Good next-good same
 
   pub final-agrees : (qs : List Ask) (m : Machine) → Good m → final guard (image m) qs ≡ image (final step m qs)
-  unfolding final pictured
-  final-agrees [] m g = refl
-  final-agrees (q ∷ qs) m g =
-      ap (λ (o : Outcome (List ℕ)). final guard (o .state) qs) (same m g q) ∙ final-agrees qs (step m q .state) (next-good m g q)
+  final-agrees = final-same guard step image Good next-good same
 
 -- ---- after an accepted set-up
 

@@ -1,5 +1,5 @@
 -- The requests of a list of words from a place on, and what a loop over them has done and has left. Assumes nothing.
-use Prim.Native.Nat.{ℕ, zero, suc, _+_, _-_, _*_, _/_, _≤_, _<_}
+use Prim.Native.Nat.{ℕ, suc, _+_, _-_, _*_, _/_, _≤_, _<_}
 use mathlib.Core.Path.{_≡_, refl, sym, ap, ap₂, _∙_}
 use mathlib.Core.List.{List, [], _∷_}
 use native.Mathlib.Omega.{arith}
@@ -11,7 +11,8 @@ use Rattle.bits.proofs.Truth.{by-truth, if-true, if-false}
 use Rattle.table.specs.Table.{tabulate}
 use Rattle.table.proofs.Tabulate.{length-tabulate, tabulate-cong}
 use Rattle.roles.specs.Request.{Ask, Outcome, refuse}
-use Rattle.machine.specs.Wall.{trace, final}
+use Rattle.machine.specs.Wall.{Event, trace, final}
+use Rattle.machine.proofs.Tracing.{trace-none, trace-first, final-none, final-first}
 use Rattle.labels.specs.Guard.{imageStep}
 use Rattle.demand.specs.Run.{askAt, serveAt, asks, flat}
 
@@ -41,9 +42,11 @@ module _ (words : List ℕ) where
 
 -- two words for each reply
 flat-length : (guard : List ℕ → Ask → Outcome (List ℕ)) (qs : List Ask) (t : List ℕ) → length (flat (trace guard t qs)) ≡ 2 * length qs
-unfolding flat trace
-flat-length guard [] t = refl
-flat-length guard (q ∷ qs) t = let e = flat-length guard qs (guard t q .state) in omega arith
+unfolding flat
+flat-length guard [] t = ap (λ (es : List Event). length (flat es)) (trace-none guard t)
+flat-length guard (q ∷ qs) t =
+    let e = flat-length guard qs (guard t q .state) in
+    ap (λ (es : List Event). length (flat es)) (trace-first guard t q qs) ∙ omega arith
 
 -- ---- a loop over the requests, with a guard
 
@@ -84,12 +87,11 @@ module _ (guard : List ℕ → Ask → Outcome (List ℕ)) (words t₀ : List �
 
     -- the words of the replies that are left: this reply's two, and the others
     this : i < length words / 4 → flat (trace guard t (from words i)) ≡ o .answer ∷ o .spent ∷ flat (trace guard (o .state) (from words (i + 1)))
-    unfolding trace flat
-    this h = ap (λ (qs : List Ask). flat (trace guard t qs)) (from-step words i h)
+    unfolding flat
+    this h = ap (λ (qs : List Ask). flat (trace guard t qs)) (from-step words i h) ∙ ap flat (trace-first guard t (askAt words i) (from words (i + 1)))
 
     after : i < length words / 4 → final guard (o .state) (from words (i + 1)) ≡ final guard t₀ (asks words)
-    unfolding final
-    after h = sym (ap (final guard t) (from-step words i h)) ∙ s .table
+    after h = sym (ap (final guard t) (from-step words i h) ∙ final-first guard t (askAt words i) (from words (i + 1))) ∙ s .table
 
     is-answer : i < length words / 4 → o .answer ≡ getD whole (2 * i) 0
     is-answer h = sym (ap (λ (l : List ℕ). getD l 0 0) (this h)) ∙ s .left 0 ∙ ap (λ (k : ℕ). getD whole k 0) (omega arith)
@@ -134,8 +136,7 @@ module _ (guard : List ℕ → Ask → Outcome (List ℕ)) (words t₀ : List �
             getD-set-other out (2 * i) k a 0 n ∙ s .written k (omega arith)))
 
     pub served-table : length words / 4 ≤ i → t ≡ final guard t₀ (asks words)
-    unfolding final
-    served-table h = sym (ap (final guard t) (from-end words i h)) ∙ s .table
+    served-table h = sym (ap (final guard t) (from-end words i h) ∙ final-none guard t) ∙ s .table
 
     pub served-replies : length words / 4 ≤ i → out ≡ whole
     served-replies h =

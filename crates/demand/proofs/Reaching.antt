@@ -14,12 +14,13 @@ use Rattle.table.proofs.Agree.{by-upd, upd-same}
 use Rattle.table.proofs.Tabulate.{length-tabulate, getD-tabulate}
 use Rattle.table.proofs.Table.{is-table}
 use Rattle.sound.specs.Answers.{isSound}
-use Rattle.roles.specs.Request.{Ask, ask, Outcome}
+use Rattle.roles.specs.Request.{ask, Outcome}
 use Rattle.machine.specs.Label.{dominates}
 use Rattle.machine.specs.Machine.{Machine, Seat, idle, at, isIdle, mayOpen, withHeld, withSeat, step, begin}
 use Rattle.machine.specs.Wall.{final}
 use Rattle.machine.proofs.Seats.{idle-at}
 use Rattle.machine.proofs.Steps.{opens, starts}
+use Rattle.machine.proofs.Tracing.{final-none, final-keeps}
 use Rattle.image.specs.SetUp.{areLabels}
 use Rattle.image.specs.Claims.{Ranged, Safe}
 use Rattle.image.proofs.Claims.{sound-image, image-means}
@@ -30,11 +31,6 @@ use Rattle.demand.proofs.Demand.{begin-good}
 use Rattle.demand.proofs.Toward.{clearances, labels, Toward, Further, stay, through, sweep, asked, good-after}
 
 -- ---- what is reached is safe
-
-final-good : (qs : List Ask) (m : Machine) → Good m → Good (final step m qs)
-unfolding final
-final-good [] m g = g
-final-good (q ∷ qs) m g = final-good qs (step m q .state) (next-good m g q)
 
 module _ {m n : Machine} where
   same-ranged : Same m n → Ranged n → Ranged m
@@ -176,10 +172,10 @@ module _ (m : Machine) (g : Ranged m) (f : Safe m) where
   are-labels v h = all-intro _ 64 (λ i l. lt-ltb _ 32 (subst (λ (n : ℕ). n < 32) (sym (getD-tabulate 64 v 0 i l)) (h i l)))
 
   begins : Toward m (begin (clearances m) (labels m))
-  unfolding begin final
+  unfolding begin
   begins = record {
     requests = [];
-    reached = refl;
+    reached = final-none step (begin (clearances m) (labels m));
     good = record {
       ranged = begin-ranged (clearances m) (labels m) (are-labels (m .clearance) (g .clearances)) (are-labels (m .label) (g .labels));
       safe = begin-safe (clearances m) (labels m);
@@ -224,7 +220,7 @@ is-blank = is-table _ (length-tabulate tableLength (λ i. 0))
 
 reached-good : {m : Machine} (r : Reachable m) → Good (final step (begin (r .clearances) (r .labels)) (r .requests))
 reached-good r =
-    final-good (r .requests) (begin (r .clearances) (r .labels)) (begin-good blank (r .clearances) (r .labels) (r .accepted blank is-blank))
+    final-keeps step Good next-good (r .requests) (begin (r .clearances) (r .labels)) (begin-good blank (r .clearances) (r .labels) (r .accepted blank is-blank))
 
 reached-ranged : {m : Machine} → Reachable m → Ranged m
 reached-ranged r = same-ranged (r .reached) (reached-good r .ranged)

@@ -108,7 +108,6 @@ module _ (m : Machine) (g : Ranged m) (f : Safe m) where
 
     -- the same clearance
     reclear-own-same : k ≡ c → Simulated m (reclearing u c)
-    unfolding image
     reclear-own-same e =
         let b = eq-eqb k c e in
         reclear-same roleStep (encode S) u c (ap (λ (n : ℕ). eqb n c) read ∙ b)
@@ -162,7 +161,6 @@ module _ (m : Machine) (g : Ranged m) (f : Safe m) where
           ∙ ap₂ (λ (i j : ℕ). decide b i j (image (withClearance m u c)) (image m)) (if-false 0 2 (ne-eqb k c n)) (if-false 0 3 (ne-eqb k c n))
 
       reclear-changed-same : all 32 (λ s. fits u c (m .seat s)) ≡ true → Simulated m (reclearing u c)
-      unfolding image
       reclear-changed-same e =
           let taken = read-off (answered-yes _ _ _ _ _ (deassign-is A1 sound-added u k hu (let l = hk in omega arith))
           (sessions-fit u c hu hc more (A1 .assigned u without k) new-roles ∙ e)) in
@@ -172,7 +170,6 @@ module _ (m : Machine) (g : Ranged m) (f : Safe m) where
           ∙ sym (machine-says e ∙ decide-yes 2 3 _ _ refl)
 
       reclear-kept-same : all 32 (λ s. fits u c (m .seat s)) ≡ false → Simulated m (reclearing u c)
-      unfolding image
       reclear-kept-same e =
           let kept = read-off (answered-no _ _ _ _ _ (deassign-is A1 sound-added u k hu (let l = hk in omega arith))
           (sessions-fit u c hu hc more (A1 .assigned u without k) new-roles ∙ e)) in

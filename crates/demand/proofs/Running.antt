@@ -3,15 +3,12 @@ use Prim.Native.Nat.{ℕ, _*_, _/_, _%_}
 use mathlib.Core.Path.{_≡_, sym, ap, ap₂, _∙_}
 use mathlib.Core.Bool.{true, false}
 use mathlib.Core.List.{List}
-use lib.Dec.{eqb}
 use lib.ListN.{length}
 use borrow.Author.Tests.{eq-eqb, ne-eqb}
 use Rattle.bits.proofs.Truth.{past, stopped, and-intro, false-and, and-false}
 use Rattle.table.specs.Table.{isTable}
-use Rattle.roles.specs.Request.{Outcome}
-use Rattle.machine.specs.Machine.{step, begin}
+use Rattle.machine.specs.Machine.{begin}
 use Rattle.machine.specs.Wall.{trace, final}
-use Rattle.image.specs.Image.{image}
 use Rattle.image.specs.SetUp.{labelSetUp}
 use Rattle.image.proofs.Beginning.{set-up-refused}
 use Rattle.labels.specs.Guard.{imageStep}

@@ -7,8 +7,7 @@ use mathlib.Core.List.{List}
 use native.Mathlib.Omega.{arith}
 use lib.Dec.{eqb}
 use borrow.Author.Tests.{eqb-true, eqb-false}
-use Rattle.bits.specs.Words.{_and_, upd}
-use Rattle.bits.specs.Sets.{_without_}
+use Rattle.bits.specs.Words.{upd}
 use Rattle.bits.proofs.Truth.{by-truth}
 use Rattle.table.specs.Reading.{state}
 use Rattle.table.specs.Table.{encode}
@@ -89,7 +88,6 @@ module _ (m : Machine) (g : Good m) where
   image-sound = sound-image m w .1 (g .safe)
 
   image-passes : isImage (state (image m)) ≡ true
-  unfolding image
   image-passes = passes (state (encode (shown m))) m w (state-encode (shown m))
 
   pub one-step : (q : Ask) → labelStep (image m) q ≡ pictured (step m q)
@@ -107,7 +105,6 @@ module _ (m : Machine) (g : Good m) where
 
   -- the next state is in range, and safe since the role guard keeps its image sound
   pub next-good : (q : Ask) → Good (step m q .state)
-  unfolding pictured
   next-good q =
       let r = next-ranged m w q (cases m q) in
       record {

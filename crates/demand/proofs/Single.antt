@@ -4,7 +4,7 @@ use mathlib.Core.Path.{_≡_, refl, sym, ap, ap₂, _∙_}
 use mathlib.Core.Bool.{Bool, true, not}
 use mathlib.Core.List.{List}
 use native.Mathlib.Omega.{arith}
-use Rattle.bits.specs.Words.{_and_, upd, _with_}
+use Rattle.bits.specs.Words.{upd}
 use Rattle.table.specs.State.{State}
 use Rattle.table.specs.Changes.{withOwner, withActive, withHolds}
 use Rattle.table.specs.Sound.{Sound}
@@ -50,21 +50,21 @@ module _ (m : Machine) (g : Ranged m) (f : Safe m) where
   sound = safe-sound m g f
 
   pub open-same : (s o x : ℕ) → s < 32 → o < 64 → x < 2 → Simulated m (opening s o x)
-  unfolding image plan
+  unfolding plan
   open-same s o x hs ho hx =
       single-decided _ _ _ _ _ (open-is S sound s o x hs ho (omega arith))
       ∙ ap₂ (λ (b : Bool) (t : List ℕ). decide b 1 1 t (encode S)) (effective-shown m g s x o hs hx ho) (encode-cong (opened-agrees m s o x ho hx))
       ∙ sym (decided m _ 1 1 _ (opening s o x) (act-opening m s o x))
 
   pub close-same : (s o x : ℕ) → s < 32 → o < 64 → x < 2 → Simulated m (closing s o x)
-  unfolding image plan
+  unfolding plan
   close-same s o x hs ho hx =
       single-decided _ _ _ _ _ (close-is S sound s o x hs ho (omega arith))
       ∙ ap (λ (t : List ℕ). decide true 1 1 t (encode S)) (encode-cong (closed-agrees m s o x ho hx))
       ∙ sym (decided m _ 1 1 _ (closing s o x) (act-closing m s o x))
 
   pub end-same : (s : ℕ) → s < 32 → Simulated m (ending s)
-  unfolding image plan
+  unfolding plan
   end-same s hs =
       single-decided _ _ _ _ _ (end-is S sound s hs)
       ∙ ap₂ (λ (b : Bool) (t : List ℕ). decide (not b) 1 1 t (encode S)) (idle-shown m s) (encode-cong ended)

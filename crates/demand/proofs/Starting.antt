@@ -6,7 +6,7 @@ use mathlib.Core.List.{List}
 use native.Mathlib.Omega.{arith}
 use lib.Dec.{eqb}
 use borrow.Author.Tests.{ne-eqb, eqb-true}
-use Rattle.bits.specs.Words.{_and_, _with_}
+use Rattle.bits.specs.Words.{_with_}
 use Rattle.bits.proofs.Truth.{by-truth, true-and, false-and, and-false, if-true, if-false}
 use Rattle.table.specs.State.{State}
 use Rattle.table.specs.Authority.{idle, mayActivate}
@@ -24,7 +24,7 @@ use Rattle.roles.proofs.Serving.{decide-yes, decide-no}
 use Rattle.machine.specs.Label.{dominates}
 use Rattle.machine.specs.Machine.{Machine, at, isIdle, withSeat, starting}
 use Rattle.machine.proofs.Steps.{act-starting}
-use Rattle.image.specs.Image.{seatRoles, seatOwner, shown, image}
+use Rattle.image.specs.Image.{seatRoles, seatOwner, shown}
 use Rattle.image.specs.Claims.{Ranged, Safe}
 use Rattle.image.proofs.Roles.{authorised-read, authorised-write}
 use Rattle.image.proofs.Shown.{safe-sound, shown-juniors, assigned-is, idle-shown}
@@ -63,7 +63,6 @@ module _ (m : Machine) (g : Ranged m) (f : Safe m) where
 
     -- a session that is not idle
     start-busy-same : isIdle (m .seat s) ≡ false → Simulated m (starting s u y)
-    unfolding image
     start-busy-same b =
         let a = answered-no _ _ _ _ _ (start-is S sound s u hs hu) (idle-shown m s ∙ b) in
         start-busy roleStep (encode S) s u y (a .answer)
@@ -92,7 +91,6 @@ module _ (m : Machine) (g : Ranged m) (f : Safe m) where
 
       -- a level that is not cleared: the session is ended again
       start-uncleared-same : dominates (m .clearance u) y ≡ false → Simulated m (starting s u y)
-      unfolding image
       start-uncleared-same n =
           let level = answered-on (begun .table) (answered-no _ _ _ _ _ (activate-is S1 sound1 s y hs (omega arith)) (level-is ∙ n)) in
           let end = answered-yes _ _ _ _ _ (end-is S1 sound1 s hs) (ap not (ap (λ (w : ℕ). eqb w 0) owned ∙ ne-eqb (suc u) 0 (omega arith))) in
@@ -120,7 +118,6 @@ module _ (m : Machine) (g : Ranged m) (f : Safe m) where
 
       -- a level that is cleared: the session gets its read role and its write role
       start-cleared-same : dominates (m .clearance u) y ≡ true → Simulated m (starting s u y)
-      unfolding image
       start-cleared-same c =
           let level = answered-yes _ _ _ _ _ (activate-is S1 sound1 s y hs (omega arith)) (level-is ∙ c) in
           let sound2 = next-sound S1 S2 sound1 (ask 5 s y 0) (level .table) in

@@ -1,6 +1,6 @@
 -- States on the way from the start of the machine to a given one. Assumes nothing.
 use Prim.Native.Nat.{ℕ, zero, suc, _<_}
-use mathlib.Core.Path.{_≡_, refl, sym, ap, subst, _∙_}
+use mathlib.Core.Path.{_≡_, sym, ap, subst, _∙_}
 use mathlib.Core.Bool.{true}
 use mathlib.Core.List.{List, [], _∷_, _++_}
 use native.Mathlib.Omega.{arith}
@@ -11,12 +11,8 @@ use Rattle.table.specs.Table.{tabulate}
 use Rattle.roles.specs.Request.{Ask}
 use Rattle.machine.specs.Machine.{Machine, idle, step, begin}
 use Rattle.machine.specs.Wall.{final}
+use Rattle.machine.proofs.Tracing.{final-last}
 use Rattle.demand.proofs.Simulation.{Good, next-good}
-
-final-last : (qs : List Ask) (q : Ask) (m : Machine) → final step m (qs ++ (q ∷ [])) ≡ step (final step m qs) q .state
-unfolding final
-final-last [] q m = refl
-final-last (p ∷ qs) q m = final-last qs q (step m p .state)
 
 module _ (m : Machine) where
   abbrev pub clearances : List ℕ
@@ -75,7 +71,7 @@ module _ (m : Machine) where
 
   -- one more request
   pub asked : {n k : Machine} (t : Toward n) (q : Ask) → step n q .state ≡ k → final step (begin clearances labels) (t .requests ++ (q ∷ [])) ≡ k
-  asked t q e = final-last (t .requests) q (begin clearances labels) ∙ ap (λ (n : Machine). step n q .state) (t .reached) ∙ e
+  asked t q e = final-last step (t .requests) q (begin clearances labels) ∙ ap (λ (n : Machine). step n q .state) (t .reached) ∙ e
 
   pub good-after : {n k : Machine} → Toward n → (q : Ask) → step n q .state ≡ k → Good k
   good-after {n} t q e = subst Good e (next-good n (t .good) q)

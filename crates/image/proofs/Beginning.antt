@@ -13,8 +13,7 @@ use Rattle.bits.proofs.Below.{all-elim}
 use Rattle.table.specs.Table.{isTable}
 use Rattle.table.proofs.Table.{is-table, table-length}
 use Rattle.sound.specs.Answers.{isSound}
-use Rattle.roles.specs.Request.{Outcome, refuse, accept}
-use Rattle.roles.proofs.Requests.{refuse-is, accept-is}
+use Rattle.roles.specs.Request.{Outcome}
 use Rattle.machine.proofs.Seats.{idle-at}
 use Rattle.image.specs.Image.{image}
 use Rattle.machine.specs.Machine.{begin}
@@ -51,14 +50,13 @@ module _ (t clearances labels : List ℕ) where
         clearances-known = and-left _ _ a;
         labels-known = and-right (areLabels clearances) _ a;
       }))
-      (λ a. f 19 (λ z. omega arith) (set-up-values t clearances labels i d p a ∙ refuse-is 19 t)))
-      (λ l. f 18 (λ z. omega arith) (set-up-lists t clearances labels i l ∙ refuse-is 18 t)))
-      (λ i. f 12 (λ z. omega arith) (set-up-short t clearances labels i ∙ refuse-is 12 t))
+      (λ a. f 19 (λ z. omega arith) (set-up-values t clearances labels i d p a)))
+      (λ l. f 18 (λ z. omega arith) (set-up-lists t clearances labels i l)))
+      (λ i. f 12 (λ z. omega arith) (set-up-short t clearances labels i))
 
   pub accepted : Passed t clearances labels → outcome ≡ record { answer = 1; spent = 0; state = image (begin clearances labels) }
   accepted p =
       set-up-accepted t clearances labels (p .table) (p .long-clearances) (p .long-labels) (p .clearances-known) (p .labels-known)
-      ∙ accept-is (image (begin clearances labels))
 
   -- what an answer of 1 says
   pub passed : outcome .answer ≡ 1 → Passed t clearances labels

@@ -1,42 +1,37 @@
 -- The claims of specs/Claims.antt. Assumes nothing.
 use Prim.Native.Nat.{ℕ, zero, suc, _^_, _≤_, _<_}
 use mathlib.Core.Path.{_≡_, refl, sym, ap, ap₂, subst, _∙_}
-use mathlib.Core.Bool.{Bool, true, false}
+use mathlib.Core.Bool.{true, false}
 use mathlib.Core.List.{List}
-use mathlib.Core.Logic.{_↔_}
 use native.Mathlib.Omega.{arith}
 use lib.Dec.{eqb, ltb}
-use lib.ListN.{length, getD}
-use borrow.Author.Tests.{eq-eqb, eqb-true, ltb-true, ltb-false, lt-ltb, le-ltb}
-use Rattle.bits.specs.Words.{_and_, has, all, pack}
+use borrow.Author.Tests.{eq-eqb, eqb-true, ltb-false, le-ltb}
+use Rattle.bits.specs.Words.{_and_, has, pack}
 use Rattle.bits.proofs.Truth.{clash, by-truth, is-false, and-intro, and-left, and-right, true-and, false-and}
 use Rattle.bits.proofs.Below.{all-intro, all-elim}
 use Rattle.bits.proofs.Word.{has-pack, pack-is, none-in}
 use Rattle.table.specs.State.{State}
-use Rattle.table.specs.Authority.{permission, effective}
+use Rattle.table.specs.Authority.{permission}
 use Rattle.table.specs.Sound.{Sound}
-use Rattle.table.specs.Reading.{tableLength, word, state}
-use Rattle.table.specs.Table.{isTable}
+use Rattle.table.specs.Reading.{state}
 use Rattle.table.proofs.Agree.{Agree}
 use Rattle.table.proofs.Encode.{shown, state-encode}
 use Rattle.table.proofs.State.{effective-elim}
 use Rattle.table.proofs.Sound.{sound-elim}
 use Rattle.table.proofs.Table.{table-length}
-use Rattle.sound.specs.Answers.{isSound}
 use Rattle.sound.proofs.Answers.{sound-state, sound-table}
 use Rattle.roles.proofs.Requests.{encode-sound, sound-encode}
-use Rattle.machine.specs.Machine.{Machine, Seat, at}
+use Rattle.machine.specs.Machine.{Machine}
 use Rattle.image.specs.Image as image
-use Rattle.image.specs.Image.{above, clearedRoles, seatRoles, seatOwner, grantedRoles, permittedObjects}
+use Rattle.image.specs.Image.{above, clearedRoles, seatRoles, grantedRoles, permittedObjects}
 use Rattle.image.specs.Test.{labelOf, seatOf, machineOf, seniorityFits, permissionsFit, usersFit, objectsFit, levelsFit, isImage}
-use Rattle.image.specs.Claims.{Ranged, Safe, SoundImage, Imaged, ImageMeans}
+use Rattle.image.specs.Claims.{Ranged, SoundImage, ImageMeans}
 use Rattle.image.proofs.Reading.{label-below, label-cleared, label-granted, owner-of, seat-read, seat-back}
-use Rattle.image.proofs.Shown.{safe-sound, sound-safe, shown-juniors, owner-is, active-is, granted-is, assigned-is}
+use Rattle.image.proofs.Shown.{safe-sound, sound-safe, owner-is, active-is, granted-is, assigned-is}
 
 -- ---- soundness
 
 pub sound-image : SoundImage
-unfolding image.image
 sound-image m g = (λ e. sound-safe m g (sound-encode (image.shown m) e), λ f. encode-sound (image.shown m) (safe-sound m g f))
 
 -- ---- the test on a sound state of 64-bit words
@@ -156,7 +151,6 @@ module _ (S : State) (m : Machine) (g : Ranged m) (a : Agree S (image.shown m)) 
       (all-intro _ 32 (λ s h. eq-eqb _ _ (a .active s h ∙ ap seatRoles (sym (read-seat s h))))))))
 
 pub image-means : ImageMeans
-unfolding image.image
 image-means t w s =
     let S = state t in
     let f = sound-elim S (sound-state t s) in (

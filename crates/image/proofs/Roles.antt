@@ -1,7 +1,7 @@
 -- The roles of users, sessions and objects in an image, and what they authorise. Assumes nothing.
 use Prim.Native.Nat.{ℕ, zero, suc, _+_, _-_, _^_, _≤_, _<_}
-use mathlib.Core.Path.{_≡_, refl, sym, ap, ap₂, subst, _∙_}
-use mathlib.Core.Bool.{Bool, true, false}
+use mathlib.Core.Path.{_≡_, sym, ap, subst, _∙_}
+use mathlib.Core.Bool.{true, false}
 use native.Mathlib.Omega.{arith}
 use Rattle.bits.specs.Words.{has, pack, _with_}
 use Rattle.bits.proofs.Truth.{clash, same-truth}
@@ -10,7 +10,7 @@ use Rattle.table.specs.State.{State}
 use Rattle.table.specs.Authority.{senior, authorised}
 use Rattle.table.proofs.State.{authorised-intro, authorised-elim}
 use Rattle.machine.specs.Label.{dominates}
-use Rattle.machine.specs.Machine.{Seat, idle, at}
+use Rattle.machine.specs.Machine.{idle, at}
 use Rattle.machine.proofs.Order.{dominates-bottom}
 use Rattle.image.specs.Image.{above, clearedRoles, seatRoles, grantedRoles}
 use Rattle.image.proofs.Above.{Over, reads, writes, over, over-above}

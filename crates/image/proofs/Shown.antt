@@ -1,14 +1,13 @@
 -- What is effective in the image of a machine state, and when the image is sound. Assumes nothing.
 use Prim.Native.Nat.{ℕ, zero, suc, _+_, _-_, _≤_, _<_}
 use mathlib.Core.Path.{_≡_, refl, sym, ap, ap₂, subst, _∙_}
-use mathlib.Core.Bool.{Bool, true, false}
+use mathlib.Core.Bool.{true}
 use native.Mathlib.Omega.{arith}
 use lib.Dec.{eqb, ltb}
 use borrow.Author.Tests.{ne-eqb, eqb-true, lt-ltb, ltb-true, ltb-false}
 use Rattle.bits.specs.Words.{_and_, has, pack}
-use Rattle.bits.proofs.Truth.{clash, by-truth, is-false, same-truth, and-intro, and-left, and-right, and-false}
+use Rattle.bits.proofs.Truth.{clash, by-truth, is-false, same-truth, and-intro, and-left, and-right}
 use Rattle.bits.proofs.Word.{has-pack, pack-none}
-use Rattle.table.specs.State.{State}
 use Rattle.table.specs.Authority.{senior, permission, idle, mayActivate, effective}
 use Rattle.table.specs.Sound.{Sound}
 use Rattle.table.proofs.State.{effective-intro, effective-elim, may-activate-user}

@@ -1,21 +1,20 @@
 -- The table that the label set-up writes, section by section. Assumes nothing.
-use Prim.Native.Nat.{ℕ, zero, suc, _+_, _*_, _-_, _≤_, _<_}
+use Prim.Native.Nat.{ℕ, zero, suc, _+_, _*_, _≤_, _<_}
 use mathlib.Core.Path.{_≡_, refl, sym, ap, _∙_}
-use mathlib.Core.Bool.{Bool, true, false}
 use mathlib.Core.List.{List}
 use native.Mathlib.Omega.{arith}
 use lib.Dec.{ltb}
 use lib.ListN.{length, getD}
-use Rattle.bits.specs.Words.{_and_, pack, _with_}
+use Rattle.bits.specs.Words.{_with_}
 use Rattle.bits.proofs.Truth.{and-false}
 use Rattle.bits.proofs.Word.{pack-none}
 use Rattle.table.specs.Answers.{overlay, clearedFrom}
-use Rattle.table.specs.Reading.{tableLength, state}
+use Rattle.table.specs.Reading.{tableLength}
 use Rattle.table.specs.Table.{tabulate}
 use Rattle.table.proofs.Answers.{length-cleared, cleared-before, cleared-after, length-overlay, overlay-at, overlay-before}
 use Rattle.table.proofs.Encode as encode
 use Rattle.table.proofs.Tabulate.{length-tabulate, getD-tabulate}
-use Rattle.machine.specs.Machine.{idle, begin}
+use Rattle.machine.specs.Machine.{begin}
 use Rattle.image.specs.Image.{clearedRoles, seatRoles, seatOwner, grantedRoles, shown, image}
 use Rattle.image.proofs.Rows.{rows, row-is, masks, mask-is}
 
@@ -102,7 +101,7 @@ module _ (t clearances labels : List ℕ) (whole : length t ≡ tableLength) whe
   granted-words (suc (suc x)) o hx ho = late (136 + 64 * suc (suc x) + o) (omega arith) (omega arith)
 
   pub written-image : t6 ≡ image (begin clearances labels)
-  unfolding image shown begin seatOwner seatRoles
+  unfolding shown begin seatOwner seatRoles
   written-image =
       encode.shown t6 (shown (begin clearances labels)) (length-cleared t5 264 ∙ long5) (record {
         juniors = λ r h. before-64 r h ∙ put t whole 0 rows r r 64 (omega arith) refl h (omega arith) ∙ row-is r h;

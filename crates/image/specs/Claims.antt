@@ -1,7 +1,7 @@
 -- What is claimed of images, each as the answer to a question. proofs/Claims.antt proves them.
 use mathlib.Core.Logic.{_↔_}
 use Rattle.bits.specs.Words.{ℕ, _^_, _<_, _≡_, true, List, length}
-use Rattle.table.specs.Reading.{tableLength, word, state}
+use Rattle.table.specs.Reading.{word, state}
 use Rattle.sound.specs.Answers.{isSound}
 use Rattle.machine.specs.Label.{dominates}
 use Rattle.machine.specs.Machine.{Machine, at, mayOpen}

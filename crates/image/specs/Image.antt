@@ -43,5 +43,5 @@ shown m = record {
   holds = λ s x. pack 64 (λ o. ltb x 2 and m .held s o x);
 }
 
-unfoldable pub image : Machine → List ℕ
+abbrev pub image : Machine → List ℕ
 image m = encode (shown m)

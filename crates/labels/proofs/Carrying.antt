@@ -1,10 +1,9 @@
 -- What the translation of each label request comes to, from the answers of the role requests. Assumes nothing.
 use Prim.Native.Nat.{ℕ, _+_}
 use mathlib.Core.Path.{_≡_, refl, ap, _∙_}
-use mathlib.Core.Bool.{Bool, true, false}
-use mathlib.Core.List.{List, []}
+use mathlib.Core.Bool.{true, false}
+use mathlib.Core.List.{List}
 use lib.Dec.{eqb}
-use lib.ListN.{length}
 use Rattle.bits.proofs.Truth.{if-true, if-false, past, stopped}
 use Rattle.table.specs.Reading.{state}
 use Rattle.roles.specs.Request.{Ask, ask, Outcome}

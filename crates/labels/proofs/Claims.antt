@@ -1,21 +1,19 @@
 -- The claims of specs/Claims.antt. Assumes nothing.
 use Prim.Native.Nat.{ℕ, _≤_}
-use mathlib.Core.Path.{_≡_, refl, sym, ap, subst, _∙_}
-use mathlib.Core.Bool.{Bool, true}
+use mathlib.Core.Path.{_≡_, sym, ap, subst, _∙_}
+use mathlib.Core.Bool.{Bool}
 use mathlib.Core.List.{List}
 use native.Mathlib.Omega.{arith}
 use lib.Dec.{eqb}
 use lib.ListN.{length}
-use Rattle.bits.specs.Words.{if_then_else_}
 use Rattle.bits.proofs.Truth.{by-truth, if-true, if-false, past, stopped}
 use Rattle.table.specs.Sound.{sound}
 use Rattle.table.specs.Table.{isTable}
 use Rattle.table.specs.Reading.{state}
 use Rattle.sound.specs.Answers.{isSound}
 use Rattle.sound.proofs.Answers.{sound-state, sound-table}
-use Rattle.roles.specs.Request.{Ask, ask, Outcome, refuse}
+use Rattle.roles.specs.Request.{Ask, ask, Outcome}
 use Rattle.roles.specs.Guard.{roleStep}
-use Rattle.roles.proofs.Requests.{refuse-is}
 use Rattle.machine.specs.Machine.{Request, opening, closing, starting, ending, reclearing, isCode, inRange, decode}
 use Rattle.image.specs.Test.{machineOf, isImage}
 use Rattle.labels.specs.Guard.{Plan, single, startPlan, reclearPlan, saysYes, plan, carryOut, labelStep}
@@ -41,11 +39,11 @@ by-step t q f g =
     by-truth (isCode q)
     (λ c. by-truth (inRange q)
     (λ r. g (e ∙ translated-plan roleStep t q c r))
-    (λ r. f 16 (e ∙ translated-argument roleStep t q c r ∙ refuse-is 16 t)))
-    (λ c. f 15 (e ∙ translated-code roleStep t q c ∙ refuse-is 15 t)))
-    (λ m. f 14 (label-step-none t q i s m ∙ refuse-is 14 t)))
-    (λ s. f 13 (label-step-unsound t q i s ∙ refuse-is 13 t)))
-    (λ i. f 12 (label-step-short t q i ∙ refuse-is 12 t))
+    (λ r. f 16 (e ∙ translated-argument roleStep t q c r)))
+    (λ c. f 15 (e ∙ translated-code roleStep t q c)))
+    (λ m. f 14 (label-step-none t q i s m)))
+    (λ s. f 13 (label-step-unsound t q i s)))
+    (λ i. f 12 (label-step-short t q i))
 
 pub kept-sound : KeptSound
 unfolding carryOut

@@ -1,10 +1,9 @@
 -- Replies in the code's terms: an answer, a figure and a table that are an outcome's. Assumes nothing.
 use Prim.Native.Nat.{ℕ}
-use mathlib.Core.Path.{_≡_, refl, sym, ap, _∙_}
+use mathlib.Core.Path.{_≡_, sym, ap, _∙_}
 use mathlib.Core.List.{List}
 use Rattle.roles.specs.Request.{Outcome, refuse}
 use Rattle.roles.specs.Answer.{numberOf}
-use Rattle.roles.proofs.Requests.{refuse-is}
 use Rattle.labels.specs.declared.LabelAnswer.{LabelAnswer}
 use Rattle.labels.specs.Reply.{Replied}
 
@@ -31,7 +30,7 @@ clauses p = (p .answer, (p .spent, p .table))
 pub refused-clauses : {k f : ℕ} {t : List ℕ} {o : Outcome (List ℕ)} (n : ℕ) → o ≡ refuse n t → k ≡ n → f ≡ 0
     → (k ≡ o .answer) × ((f ≡ o .spent) × (t ≡ o .state))
 refused-clauses {t = t} n e a b =
-    let d = e ∙ refuse-is n t in
+    let d = e in
     (a ∙ sym (ap (λ (p : Outcome (List ℕ)). p .answer) d), (b ∙ sym (ap (λ (p : Outcome (List ℕ)). p .spent) d), sym (ap (λ (p : Outcome (List ℕ)). p .state) d)))
 
 pub clauses-as : {k f : ℕ} {t : List ℕ} {o o′ : Outcome (List ℕ)} → o ≡ o′ → (k ≡ o′ .answer) × ((f ≡ o′ .spent) × (t ≡ o′ .state))

@@ -14,7 +14,7 @@ use Rattle.roles.proofs.Claims.{served-same}
 use Rattle.roles.proofs.Steps.{step-sound}
 use Rattle.machine.specs.Machine.{Request, opening, closing, starting, ending, reclearing, isCode, inRange, decode}
 use Rattle.image.specs.Test.{machineOf}
-use Rattle.labels.specs.Guard.{Plan, single, startPlan, reclearPlan, saysYes, plan, run, carryOut, translated}
+use Rattle.labels.specs.Guard.{single, startPlan, reclearPlan, saysYes, plan, run, carryOut, translated}
 use Rattle.labels.proofs.Refusing.{translated-code, translated-argument, translated-plan}
 
 yes-same : (t : List ℕ) → isSound t ≡ true → (q : Ask) → saysYes soundStep t q ≡ saysYes roleStep t q

@@ -5,13 +5,12 @@ use table::layout::ASSIGNED;
 use table::layout::WORDS;
 ghost use mathlib.Core.Path.{_≡_};
 ghost use Prim.Native.Nat.{_-_, _≤_, _<_};
-ghost use mathlib.Core.List.{[]};
-ghost use lib.ListN.{length, getD};
+ghost use lib.ListN.{length};
 ghost use Rattle.table.specs.Reading.{state};
 ghost use Rattle.roles.specs.Request.{ask};
 ghost use Rattle.roles.specs.Guard.{soundStep};
 ghost use Rattle.roles.specs.Answer.{numberOf};
-ghost use Rattle.machine.specs.Machine.{starting, reclearing, limits, inRange};
+ghost use Rattle.machine.specs.Machine.{starting, reclearing, inRange};
 ghost use Rattle.labels.specs.Guard.{single, saysYes, plan, carryOut, labelStep, imageStep};
 ghost use Rattle.labels.specs.Reply.{Replied};
 
@@ -110,27 +109,13 @@ const LIMITS: [[u64; 3]; 5] = [
     [63, 31, 0],
 ];
 
-// The largest value of argument i, 0 to 2, of a code from 1 to 5.
-fn limit(code: u64, i: usize) -> u64
-    requires { ⌜ (1 ≤ code) × (code ≤ 5) × (i < 3) ⌝ }
-    ensures { λ r. ⌜ r ≡ getD (getD limits (code - 1) []) i 0 ⌝ }
-{
-    let row = (code - 1) as usize;
-    LIMITS[row][i]
-}
-
 // Whether the arguments of a code from 1 to 5 are within its limits.
 fn in_range(code: u64, a: u64, b: u64, c: u64) -> bool
     requires { ⌜ (1 ≤ code) × (code ≤ 5) ⌝ }
     ensures { λ r. ⌜ r ≡ inRange (ask code a b c) ⌝ }
 {
-    if limit(code, 0) < a {
-        return false;
-    }
-    if limit(code, 1) < b {
-        return false;
-    }
-    c <= limit(code, 2)
+    let row = (code - 1) as usize;
+    roles::within(LIMITS[row], a, b, c)
 }
 
 // A label request on a table that is known to be a sound image: `request` without these two tests.

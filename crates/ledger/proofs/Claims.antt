@@ -47,7 +47,7 @@ asked-sound RoleMode t q s = step-sound t q s
 asked-sound LatticeMode t q s = label-sound t q s
 
 role-refused : (t : List ℕ) (q : Ask) → 1 < roleStep t q .answer → (roleStep t q .state ≡ t) × (roleStep t q .spent ≡ 0)
-unfolding refuse decide
+unfolding decide
 role-refused t q h =
     by-step t q
     (λ n k e. (ap (λ (o : Outcome (List ℕ)). o .state) e, ap (λ (o : Outcome (List ℕ)). o .spent) e))
@@ -100,7 +100,7 @@ ran-sound d m o f = go (eqb (o .answer) 1) refl
 
 due-sound : (d : Store) (x : Due) (v : Numbers) → StoreSound d → Only (d .phase) x
     → StoreSound (performed guarded d x v .state)
-unfolding performed refuse accept lifted SoundIn
+unfolding performed lifted SoundIn
 due-sound d (Refuse n) v h f = h
 due-sound d (Choose m) v h f = tt
 due-sound d (Put s) v h f = put-sound d s (v .a) (v .b) h
@@ -109,7 +109,7 @@ due-sound d (Request m code) v h f =
     rw f (asked-sound m (d .table) (ask code (v .a) (v .b) (v .c)) (rw f at h))
 
 pub stays-sound : StaysSound
-unfolding step refuse
+unfolding step
 stays-sound d Refused h = h
 stays-sound d (Read w fs) h = due-sound d (dueOf (d .phase) w (numbersOf fs .count)) (numbersOf fs) h (due-place (d .phase) w (numbersOf fs .count))
 
@@ -135,7 +135,7 @@ line-same d (Read w fs) h = due-same d (dueOf (d .phase) w (numbersOf fs .count)
 
 -- an outcome that is no refusal, or leaves what it was for
 leaves-list : {o : Outcome (List ℕ)} (b : Bool) (l k : List ℕ) → o ≡ (if_then_else_ (not b) (refuse 19 l) (accept k)) → 1 < o .answer → (o .state ≡ l) × (o .spent ≡ 0)
-unfolding if_then_else_ refuse accept
+unfolding if_then_else_
 leaves-list true l k e h = let n = ap (λ (p : Outcome (List ℕ)). p .answer) e in absurd (omega arith)
 leaves-list false l k e h = (ap (λ (p : Outcome (List ℕ)). p .state) e, ap (λ (p : Outcome (List ℕ)). p .spent) e)
 
@@ -173,7 +173,7 @@ request-left d m q s h = let r = asked-refused m (d .table) q s h in (ap (withTa
 
 due-refused : (d : Store) (x : Due) (v : Numbers) → StoreSound d → Only (d .phase) x → 1 < performed guarded d x v .answer
     → (performed guarded d x v .state ≡ d) × (performed guarded d x v .spent ≡ 0)
-unfolding performed refuse accept SoundIn
+unfolding performed SoundIn
 due-refused d (Refuse n) v s f h = (refl, refl)
 due-refused d (Choose m) v s f h = absurd (omega arith)
 due-refused d (Put l) v s f h = put-refused d l (v .a) (v .b) h
@@ -181,7 +181,7 @@ due-refused d (SetUp m) v s f h = set-up-left d m f h
 due-refused d (Request m code) v s f h = request-left d m (ask code (v .a) (v .b) (v .c)) (rw f at s) h
 
 pub refused-leaves : RefusedLeaves
-unfolding step refuse
+unfolding step
 refused-leaves d Refused s h = record { unchanged = refl; no-spending = refl }
 refused-leaves d (Read w fs) s h =
     let r = due-refused d (dueOf (d .phase) w (numbersOf fs .count)) (numbersOf fs) s (due-place (d .phase) w (numbersOf fs .count)) h in

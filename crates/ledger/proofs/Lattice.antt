@@ -11,7 +11,7 @@ use Rattle.bits.specs.Words.{_and_}
 use Rattle.bits.proofs.Truth.{by-truth, and-left, and-right}
 use Rattle.table.specs.Table.{isTable}
 use Rattle.sound.specs.Answers.{isSound}
-use Rattle.roles.specs.Request.{Ask, Outcome, refuse, decide, accept}
+use Rattle.roles.specs.Request.{Ask, Outcome, refuse, decide}
 use Rattle.machine.specs.Machine.{Machine, isCode, inRange, decode, allowed, step, begin}
 use Rattle.machine.proofs.Steps.{step-code, step-argument, step-act}
 use Rattle.image.specs.Image.{image}
@@ -45,7 +45,6 @@ module _ (t clearances labels : List ℕ) where
   label-set-up-refused h = set-up-refused t clearances labels h
 
   pub label-set-up-spends : 0 ≡ labelSetUp t clearances labels .spent
-  unfolding refuse accept
   label-set-up-spends =
       by-truth (isTable t)
       (λ i. by-truth (eqb (length clearances) 64 and eqb (length labels) 64)
@@ -81,7 +80,6 @@ module _ (t : List ℕ) (q : Ask) (h : (isSound t ≡ true) × Imaged t) where
   label-same = ap (λ (l : List ℕ). imageStep l q) (h .1 .is-image) ∙ one-step-served m good q ∙ sym machined
 
   pub label-sound : (isSound (labelStep t q .state) ≡ true) × Imaged (labelStep t q .state)
-  unfolding pictured
   label-sound = (
     kept-sound t q (h .0),
     record {
@@ -92,7 +90,7 @@ module _ (t : List ℕ) (q : Ask) (h : (isSound t ≡ true) × Imaged t) where
   )
 
   pub label-refused : 1 < labelStep t q .answer → (labelStep t q .state ≡ t) × (labelStep t q .spent ≡ 0)
-  unfolding refuse decide
+  unfolding decide
   label-refused k =
       by-truth (isCode q)
       (λ c. by-truth (inRange q)

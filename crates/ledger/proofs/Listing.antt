@@ -20,11 +20,9 @@ comes-to e c = record {
 }
 
 pub comes-refused : (n : ℕ) (l : List ℕ) → Comes l n 0 (refuse n l)
-unfolding refuse
 comes-refused n l = record { list = refl; answer = refl; spends = refl }
 
 pub comes-accepted : (l k : List ℕ) → l ≡ k → Comes l 1 0 (accept k)
-unfolding accept
 comes-accepted l k e = record { list = e; answer = refl; spends = refl }
 
 module _ (l : List ℕ) (last i v : ℕ) where

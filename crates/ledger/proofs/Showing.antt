@@ -60,7 +60,7 @@ shows-as e h = ap (λ (p : Outcome (List ℕ)). shows (p .answer)) e ∙ h
 -- ---- requests and set-ups
 
 role-shows : (t : List ℕ) (q : Ask) → isSound t ≡ true → 1 ≤ q .code → q .code ≤ 10 → shows (roleStep t q .answer) ≡ true
-unfolding refuse shows _or_
+unfolding shows _or_
 role-shows t q s l h =
     let e = role-step-sound t q (sound-table t s) (sound-state t s) in
     let c = is-code q l h in
@@ -71,7 +71,7 @@ role-shows t q s l h =
     (λ r. shows-as (e ∙ checked-argument allowed t q c r) refl)
 
 refused-shows : {o : Outcome (List ℕ)} (t : List ℕ) → o ≡ refuse 16 t → shows (o .answer) ≡ true
-unfolding refuse shows _or_
+unfolding shows _or_
 refused-shows t e = shows-as e refl
 
 asked-shows : (m : Mode) (t : List ℕ) (q : Ask) → SoundFor m t → 1 ≤ q .code → q .code ≤ most m → shows (asked guarded m t q .answer) ≡ true
@@ -80,7 +80,7 @@ asked-shows RoleMode t q s l h = role-shows t q s l h
 asked-shows LatticeMode t q s l h = by-label t q s l h (λ e. refused-shows _ e) (λ b y n new old e. shows-as e (shows-decided b y n new old))
 
 made-shows : (d : Store) (m : Mode) → Proper d → shows (set-up-of d m .answer) ≡ true
-unfolding setUpBy accept refuse shows _or_
+unfolding setUpBy shows _or_
 made-shows d RoleMode p =
     by-truth (acyclic (closure (d .juniors)))
     (λ a. shows-as (set-up-accepted (d .table) (d .juniors) (d .permissions) (p .table) (p .juniors) (p .permissions) a) refl)
@@ -109,7 +109,7 @@ keeps-as : {o o′ : Outcome (List ℕ)} (l : List ℕ) → o ≡ o′ → Keeps
 keeps-as l e h = (shows-as e (h .0), ap (λ (p : Outcome (List ℕ)). length (p .state)) e ∙ h .1)
 
 keeps-choice : (b : Bool) (l : List ℕ) (i v : ℕ) → Keeps l (if_then_else_ (not b) (refuse 19 l) (accept (set l i v)))
-unfolding if_then_else_ refuse accept shows _or_
+unfolding if_then_else_ shows _or_
 keeps-choice true l i v = (refl, length-set l i v)
 keeps-choice false l i v = (refl, refl)
 
@@ -131,7 +131,7 @@ set-labels l i v n hi hv a = all-intro _ 64 (λ j h. by-truth (eqb j i)
     (λ e. ap (λ (x : ℕ). ltb x 32) (getD-set-other l i j v 0 (eqb-false j i e)) ∙ all-elim _ 64 a j h))
 
 stored-labels : (l : List ℕ) (i v : ℕ) → length l ≡ 64 → areLabels l ≡ true → areLabels (stored l i v .state) ≡ true
-unfolding stored refuse accept
+unfolding stored
 stored-labels l i v n a =
     by-truth (leb i 63 and leb v 31)
     (λ b. ap (λ (o : Outcome (List ℕ)). areLabels (o .state)) (past _ _ b)
@@ -210,7 +210,7 @@ put-shown d Labels a b p =
     )
 
 due-shown : (d : Store) (x : Due) (v : Numbers) → StoreSound d → Proper d → Fits (d .phase) x → Shown (performed guarded d x v)
-unfolding performed refuse accept lifted ran SoundIn
+unfolding performed lifted ran SoundIn
 due-shown d (Refuse n) v s p f = (f, p)
 due-shown d (Choose m) v s p f = (shows-small 1 (omega arith), with-table d (SettingUp m) (d .table) p (p .table))
 due-shown d (Put l) v s p f = put-shown d l (v .a) (v .b) p
@@ -221,7 +221,7 @@ due-shown d (Request m code) v s p f =
     (asked-shows m (d .table) q r (f .1) (f .2), with-table d (d .phase) _ p (sound-is-table m _ (asked-sound m (d .table) q r)))
 
 pub never-shown : NeverShown
-unfolding step refuse shows _or_
+unfolding step shows _or_
 never-shown d Refused s p = (refl, p)
 never-shown d (Read w fs) s p =
     due-shown d (dueOf (d .phase) w (numbersOf fs .count)) (numbersOf fs) s p (due-fits (d .phase) w (numbersOf fs .count))

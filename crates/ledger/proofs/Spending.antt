@@ -11,7 +11,7 @@ use Rattle.bits.specs.Words.{_and_}
 use Rattle.bits.proofs.Truth.{by-truth, and-left, and-right}
 use Rattle.table.specs.Table.{isTable}
 use Rattle.table.specs.Reading.{state}
-use Rattle.roles.specs.Request.{Ask, Outcome, refuse, decide, accept}
+use Rattle.roles.specs.Request.{Ask, Outcome, refuse, decide}
 use Rattle.roles.specs.Roles.{isCode, inRange, decode, known}
 use Rattle.roles.specs.Guard.{allowedSound, soundStep}
 use Rattle.roles.proofs.Serving.{served-known, served-unknown}
@@ -42,7 +42,6 @@ module _ (t : List ℕ) (q : Ask) where
 
 -- what an outcome that is a refusal, or a yes or no, spends
 refused-spends : {o : Outcome (List ℕ)} (n : ℕ) (t : List ℕ) → 1 < n → o ≡ refuse n t → (o .spent ≡ 0) × (1 < o .answer)
-unfolding refuse
 refused-spends n t h e = rw e (refl, h)
 
 decided-spends : {o : Outcome (List ℕ)} (b : Bool) (new t : List ℕ) → o ≡ decide b 1 1 new t → (o .spent ≡ 1) × (o .answer ≤ 1)
@@ -65,7 +64,6 @@ answered-role t q h =
 -- ---- the role set-up
 
 pub set-up-spends : (t juniors permissions : List ℕ) → 0 ≡ roleSetUp t juniors permissions .spent
-unfolding refuse accept
 set-up-spends t juniors permissions =
     by-truth (isTable t)
     (λ i. by-truth (eqb (length juniors) 64 and eqb (length permissions) 8)

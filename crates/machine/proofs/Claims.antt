@@ -1,9 +1,6 @@
 -- The claims of specs/Claims.antt; the wall stands in Wall. Assumes nothing.
-use Prim.Native.Nat.{ℕ, _<_}
-use mathlib.Core.Path.{_≡_, refl, sym, ap, _∙_}
+use mathlib.Core.Path.{_≡_, refl}
 use mathlib.Core.Bool.{true}
-use lib.Dec.{eqb}
-use borrow.Author.Tests.{eqb-true}
 use Rattle.bits.specs.Words.{_and_, _or_, _implies_, has, all, each, subset}
 use Rattle.bits.proofs.Below.{all-elim}
 use Rattle.machine.specs.Label.{class, brands, dominates}

@@ -2,5 +2,6 @@
 pub mod Order
 pub mod Seats
 pub mod Steps
+pub mod Tracing
 pub mod Wall
 pub mod Claims

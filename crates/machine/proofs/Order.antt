@@ -5,7 +5,7 @@ use mathlib.Core.Bool.{true, false}
 use native.Mathlib.Omega.{arith}
 use lib.Dec.{leb}
 use borrow.Author.Tests.{le-leb, lt-leb, leb-true}
-use Rattle.bits.specs.Words.{has, subset}
+use Rattle.bits.specs.Words.{subset}
 use Rattle.bits.proofs.Truth.{clash, and-intro, and-left, and-right, true-and, false-and, same-truth}
 use Rattle.bits.proofs.Word.{has-zero, same-members}
 use Rattle.bits.proofs.Members.{subset-intro, subset-elim}

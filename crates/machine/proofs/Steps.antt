@@ -11,7 +11,7 @@ use Rattle.bits.proofs.Truth.{by-truth, and-intro, and-left, and-right, past, s
 use Rattle.roles.specs.Request.{Ask, ask, Outcome, refuse, decide}
 use Rattle.roles.proofs.Serving.{decide-yes, decide-no}
 use Rattle.roles.proofs.Codes.{within-elim}
-use Rattle.roles.proofs.Requests.{refuse-is, within-intro}
+use Rattle.roles.proofs.Requests.{within-intro}
 use Rattle.machine.specs.Label.{dominates}
 use Rattle.machine.specs.Machine.{Machine, idle, at, isIdle, mayOpen, fits, withHeld, withSeat, withClearance, Request, opening, closing, starting, ending, reclearing, isCode, limits, inRange, decode, allowed, next, figure, act, step}
 
@@ -84,8 +84,8 @@ cases m q =
     (λ r. by-truth (allowed m (decode q))
     (λ a. let e = step-act m q c r ∙ decide-yes _ _ _ m a in goes (decoded q c r) a (ap (λ (o : Outcome Machine). o .answer) e) (ap (λ (o : Outcome Machine). o .state) e))
     (λ a. left 0 _ (omega arith) (step-act m q c r ∙ decide-no _ _ _ m a)))
-    (λ r. left 16 0 (omega arith) (step-argument m q c r ∙ refuse-is 16 m)))
-    (λ c. left 15 0 (omega arith) (step-code m q c ∙ refuse-is 15 m))
+    (λ r. left 16 0 (omega arith) (step-argument m q c r)))
+    (λ c. left 15 0 (omega arith) (step-code m q c))
   where
     left : (n f : ℕ) → (n ≡ 1 → ⊥) → step m q ≡ record { answer = n; spent = f; state = m } → Case m q (step m q)
     left n f k e = stays (λ z. k (sym (ap (λ (o : Outcome Machine). o .answer) e) ∙ z)) (ap (λ (o : Outcome Machine). o .state) e)

@@ -11,12 +11,12 @@ use Rattle.bits.specs.Words.{_and_, if_then_else_}
 use Rattle.bits.proofs.Truth.{clash, and-intro, and-left, and-right}
 use Rattle.table.proofs.Agree.{upd-same, upd-other}
 use Rattle.roles.specs.Request.{Ask, Outcome}
-use Rattle.machine.specs.Label.{dominates}
-use Rattle.machine.specs.Machine.{Machine, Seat, idle, at, isIdle, mayOpen, Request, opening, closing, starting, ending, reclearing, allowed, next, step}
-use Rattle.machine.specs.Wall.{Event, trace, yesTo, upToEnd, lives, opened, Carried, same, through}
+use Rattle.machine.specs.Machine.{Machine, idle, at, isIdle, mayOpen, Request, opening, closing, starting, ending, reclearing, allowed, next, step}
+use Rattle.machine.specs.Wall.{Event, trace, yesTo, upToEnd, lives, opened, same, through}
 use Rattle.machine.specs.Claims.{Walled}
 use Rattle.machine.proofs.Order.{dominates-refl, dominates-trans}
-use Rattle.machine.proofs.Steps.{Decoded, is-opening, is-closing, is-starting, is-ending, is-reclearing, Case, stays, goes, cases}
+use Rattle.machine.proofs.Tracing.{event}
+use Rattle.machine.proofs.Steps.{is-opening, is-closing, is-starting, is-ending, is-reclearing, Case, stays, goes, cases}
 
 -- ---- one request
 
@@ -71,14 +71,11 @@ module _ (m : Machine) (q : Ask) where
 
 -- ---- one life
 
-abbrev event : Machine → Ask → Event
-event m q = record { asked = q; answer = step m q .answer; spent = step m q .spent }
-
 not-ended : (s : ℕ) (e : Event) → yesTo 4 s e ≡ false → e .asked .code ≡ 4 → e .asked .a ≡ s → e .answer ≡ 1 → ⊥
 unfolding yesTo
 not-ended s e h p q r = clash (and-intro (eq-eqb _ _ p) (and-intro (eq-eqb _ _ q) (eq-eqb _ _ r))) h
 
-opens-here : (m : Machine) (q : Ask) (s u y o x n : ℕ) → m .seat s ≡ at u y → opened s o x n ≡ event m q
+opens-here : (m : Machine) (q : Ask) (s u y o x n : ℕ) → m .seat s ≡ at u y → opened s o x n ≡ event q (step m q)
     → mayOpen (at u y) (m .label o) x ≡ true
 opens-here m q s u y o x n e p =
     let c : 1 ≡ q .code = ap (λ (v : Event). v .asked .code) p in
@@ -93,18 +90,18 @@ in-life : (s u y o x n : ℕ) (m : Machine) (qs : List Ask) → m .seat s ≡ at
     → List·Memᴰ (opened s o x n) (upToEnd s (trace step m qs)) → mayOpen (at u y) (m .label o) x ≡ true
 unfolding upToEnd trace if_then_else_
 in-life s u y o x n m [] e h = absurd (List·Memᴰ·not-nil h)
-in-life s u y o x n m (q ∷ qs) e h = go (λ e′. in-life s u y o x n (step m q .state) qs e′) (yesTo 4 s (event m q)) refl h
+in-life s u y o x n m (q ∷ qs) e h = go (λ e′. in-life s u y o x n (step m q .state) qs e′) (yesTo 4 s (event q (step m q))) refl h
   where
     rest : List Event
     rest = upToEnd s (trace step (step m q .state) qs)
 
     go : (step m q .state .seat s ≡ at u y → List·Memᴰ (opened s o x n) rest → mayOpen (at u y) (step m q .state .label o) x ≡ true)
-        → (b : Bool) → yesTo 4 s (event m q) ≡ b → List·Memᴰ (opened s o x n) (if b then [] else event m q ∷ rest)
+        → (b : Bool) → yesTo 4 s (event q (step m q)) ≡ b → List·Memᴰ (opened s o x n) (if b then [] else event q (step m q) ∷ rest)
         → mayOpen (at u y) (m .label o) x ≡ true
     go below true b k = absurd (List·Memᴰ·not-nil k)
     go below false b (List·Memᴰ·head p) = opens-here m q s u y o x n e p
     go below false b (List·Memᴰ·tail k) =
-        rw (label-fixed m q (cases m q)) at (below (keeps m q s u y (cases m q) e (not-ended s (event m q) b)) k)
+        rw (label-fixed m q (cases m q)) at (below (keeps m q s u y (cases m q) e (not-ended s (event q (step m q)) b)) k)
 
 -- a life has one user and level that all it opens fits
 record Level (label : ℕ → ℕ) (s : ℕ) (life : List Event) : Type 0 where
@@ -112,7 +109,7 @@ record Level (label : ℕ → ℕ) (s : ℕ) (life : List Event) : Type 0 where
   level : ℕ
   fitting : (o x n : ℕ) → List·Memᴰ (opened s o x n) life → mayOpen (at user level) (label o) x ≡ true
 
-started : (s : ℕ) (m : Machine) (q : Ask) → yesTo 3 s (event m q) ≡ true → step m q .state .seat s ≡ at (q .b) (q .c)
+started : (s : ℕ) (m : Machine) (q : Ask) → yesTo 3 s (event q (step m q)) ≡ true → step m q .state .seat s ≡ at (q .b) (q .c)
 unfolding yesTo
 started s m q h =
     let k : eqb (q .a) s and eqb (step m q .answer) 1 ≡ true = and-right _ _ h in
@@ -123,7 +120,7 @@ life-level : (s : ℕ) (m : Machine) (qs : List Ask) (life : List Event) → Lis
 unfolding lives trace if_then_else_
 life-level s m [] life h = absurd (List·Memᴰ·not-nil h)
 life-level s m (q ∷ qs) life h =
-    rw (label-fixed m q (cases m q)) at (go (life-level s (step m q .state) qs life) (yesTo 3 s (event m q)) refl h)
+    rw (label-fixed m q (cases m q)) at (go (life-level s (step m q .state) qs life) (yesTo 3 s (event q (step m q))) refl h)
   where
     after : Machine
     after = step m q .state
@@ -132,7 +129,7 @@ life-level s m (q ∷ qs) life h =
     es = trace step after qs
 
     go : (List·Memᴰ life (lives s es) → Level (after .label) s life)
-        → (b : Bool) → yesTo 3 s (event m q) ≡ b → List·Memᴰ life (if b then upToEnd s es ∷ lives s es else lives s es)
+        → (b : Bool) → yesTo 3 s (event q (step m q)) ≡ b → List·Memᴰ life (if b then upToEnd s es ∷ lives s es else lives s es)
         → Level (after .label) s life
     go below true b (List·Memᴰ·head p) = record {
       user = q .b;

@@ -23,7 +23,7 @@ use Rattle.table.proofs.Agree.{Agree, agree-refl, sound-agree, upd-other, by-up
 use Rattle.table.proofs.Encode.{state-encode, encode-cong, encode-state}
 use Rattle.sound.specs.Answers.{isSound}
 use Rattle.sound.proofs.Answers.{sound-state, sound-table}
-use Rattle.roles.specs.Request.{ask, Outcome, refuse, within}
+use Rattle.roles.specs.Request.{ask, Outcome, within}
 use Rattle.roles.specs.Roles.{Request, opens, closes, starts, ends, activates, drops, assigns, deassigns, grants, revokes, isCode, limits, inRange, decode, known, allowed, changed}
 use Rattle.roles.specs.Guard.{roleStep}
 use Rattle.roles.specs.Served.{Ranged}
@@ -47,7 +47,6 @@ record Words (S : State) : Type 0 where
   holds-word : (s x : ℕ) → S .holds s x < 2 ^ 64
 
 pub unchanged : Unchanged
-unfolding refuse
 unchanged t q n =
     by-step t q
     (λ k h e. state-of e)

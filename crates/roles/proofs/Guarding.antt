@@ -68,7 +68,6 @@ comes-to e c = record {
 }
 
 pub refused : {t : List ℕ} {n : ℕ} → Comes t n (refuse n t)
-unfolding refuse
 refused = record { answer = refl; table = refl }
 
 module _ {t t′ : List ℕ} {q : Request} (k : known (state t) q ≡ true) {b : Bool} (s : Served t t′ b q) where

@@ -14,7 +14,7 @@ use Rattle.roles.specs.Request.{Ask, Outcome, refuse}
 use Rattle.roles.specs.Roles.{isCode, inRange, decode, known, allowed, changed}
 use Rattle.roles.specs.Guard.{checked, roleStep, allowedSound}
 use Rattle.roles.proofs.Guarding.{role-step-sound, checked-code, checked-argument, checked-served}
-use Rattle.roles.proofs.Requests.{refuse-is, next-sound, encode-sound}
+use Rattle.roles.proofs.Requests.{next-sound, encode-sound}
 use Rattle.roles.proofs.Same.{allowed-same}
 use Rattle.roles.proofs.Serving.{decide-yes, decide-no, served-unknown}
 use Rattle.roles.proofs.Steps.{step-encode, known-agree, reach}
@@ -48,7 +48,7 @@ module _ (S : State) (f : Sound S) (q : Ask) where
   stays : (n : ℕ) → roleStep t q ≡ refuse n t → move S q ≡ stay n S → Moved S q (move S q)
   unfolding stay
   stays n e v =
-      let d = e ∙ refuse-is n t in
+      let d = e in
       record {
         answer = ap (λ (o : Outcome (List ℕ)). o .answer) d ∙ sym (ap (λ (w : Move). w .answer) v);
         table = ap (λ (o : Outcome (List ℕ)). o .state) d ∙ sym (ap (λ (w : Move). encode (w .next)) v);

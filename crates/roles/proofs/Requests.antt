@@ -19,24 +19,18 @@ use Rattle.table.specs.Table.{encode}
 use Rattle.table.proofs.Sound.{sound-elim, sound-intro}
 use Rattle.sound.specs.Answers.{isSound, sessionsFit}
 use Rattle.sound.proofs.Answers.{shown-sound}
-use Rattle.roles.specs.Request.{Ask, ask, refuse, accept, decide, within}
+use Rattle.roles.specs.Request.{Ask, ask, decide, within}
 use Rattle.roles.specs.Roles.{deassigns, limits, inRange, decode, known, allowed, changed}
-use Rattle.roles.specs.Guard.{roleStep, soundStep, allowedSound}
+use Rattle.roles.specs.Guard.{roleStep, allowedSound}
 use Rattle.roles.proofs.Codes.{is-code}
 use Rattle.roles.proofs.Same.{allowed-same}
 use Rattle.roles.proofs.Steps.{step-encode, step-sound}
 
--- a refusal, field by field
-pub refuse-is : {S : Type 0} (n : ℕ) (old : S) → refuse n old ≡ record { answer = n; spent = 0; state = old }
-unfolding refuse
-refuse-is n old = refl
+-- arguments within their largest values, of whatever code
+pub any-code : (largest : List ℕ) (code a b c : ℕ) → within largest (ask 0 a b c) ≡ within largest (ask code a b c)
+unfolding within
+any-code largest code a b c = refl
 
--- an acceptance, field by field
-pub accept-is : {S : Type 0} (new : S) → accept new ≡ record { answer = 1; spent = 0; state = new }
-unfolding accept
-accept-is new = refl
-
--- arguments within their largest values
 pub within-intro : (largest : List ℕ) (code a b c : ℕ) → a ≤ getD largest 0 0 → b ≤ getD largest 1 0 → c ≤ getD largest 2 0
     → within largest (ask code a b c) ≡ true
 unfolding within

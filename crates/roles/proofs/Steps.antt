@@ -66,7 +66,6 @@ module _ (t : List ℕ) (q : Ask) where
 
   -- a sound table stays sound
   pub step-sound : isSound t ≡ true → isSound (roleStep t q .state) ≡ true
-  unfolding refuse
   step-sound s =
       by-step
       (λ n h e. ap (λ (o : Outcome (List ℕ)). isSound (o .state)) e ∙ s)

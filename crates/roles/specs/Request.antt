@@ -18,7 +18,7 @@ pub record Outcome (S : Type 0) : Type 0 where
   pub state : S
 
 -- 01: "No and every refusal leave all words unchanged"; a refusal spends 0
-unfoldable pub refuse : {S : Type 0} → ℕ → S → Outcome S
+abbrev pub refuse : {S : Type 0} → ℕ → S → Outcome S
 refuse n old = record { answer = n; spent = 0; state = old }
 
 -- yes with the figure y and the new state, or no with the figure n and the old one
@@ -27,7 +27,7 @@ decide true y n new old = record { answer = 1; spent = y; state = new }
 decide false y n new old = record { answer = 0; spent = n; state = old }
 
 -- an accepted set-up answers 1 and spends 0
-unfoldable pub accept : {S : Type 0} → S → Outcome S
+abbrev pub accept : {S : Type 0} → S → Outcome S
 accept new = record { answer = 1; spent = 0; state = new }
 
 -- each of the three arguments is at most its largest value

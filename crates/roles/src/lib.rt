@@ -8,11 +8,11 @@ use table::layout::PERMITTED;
 use table::layout::WORDS;
 ghost use mathlib.Core.Path.{_≡_};
 ghost use Prim.Native.Nat.{_-_, _≤_, _<_};
-ghost use mathlib.Core.List.{[]};
-ghost use lib.ListN.{length, getD};
+ghost use lib.ListN.{length};
 ghost use Rattle.table.specs.Reading.{state};
+ghost use Rattle.roles.specs.Request;
 ghost use Rattle.roles.specs.Request.{ask};
-ghost use Rattle.roles.specs.Roles.{opens, closes, starts, ends, activates, drops, assigns, deassigns, grants, revokes, limits, inRange, decode};
+ghost use Rattle.roles.specs.Roles.{opens, closes, starts, ends, activates, drops, assigns, deassigns, grants, revokes, inRange, decode};
 ghost use Rattle.roles.specs.Guard.{roleStep, soundStep};
 ghost use Rattle.roles.specs.Answer.{refusalNumber, numberOf};
 ghost use Rattle.roles.specs.Served.{Fit, Served, pairKnown, closedAll};
@@ -215,13 +215,17 @@ const LIMITS: [[u64; 3]; 10] = [
     [63, 7, 63],
 ];
 
-// The largest value of argument i, 0 to 2, of a code from 1 to 10.
-fn limit(code: u64, i: usize) -> u64
-    requires { ⌜ (1 ≤ code) × (code ≤ 10) × (i < 3) ⌝ }
-    ensures { λ r. ⌜ r ≡ getD (getD limits (code - 1) []) i 0 ⌝ }
+// Whether each of three arguments is at most its largest value, whatever the code.
+pub fn within(largest: [u64; 3], a: u64, b: u64, c: u64) -> bool
+    ensures { λ r. ⌜ r ≡ Request.within largest (ask 0 a b c) ⌝ }
 {
-    let row = (code - 1) as usize;
-    LIMITS[row][i]
+    if largest[0] < a {
+        return false;
+    }
+    if largest[1] < b {
+        return false;
+    }
+    c <= largest[2]
 }
 
 // Whether the arguments of a code from 1 to 10 are within its limits.
@@ -229,13 +233,8 @@ fn in_range(code: u64, a: u64, b: u64, c: u64) -> bool
     requires { ⌜ (1 ≤ code) × (code ≤ 10) ⌝ }
     ensures { λ r. ⌜ r ≡ inRange (ask code a b c) ⌝ }
 {
-    if limit(code, 0) < a {
-        return false;
-    }
-    if limit(code, 1) < b {
-        return false;
-    }
-    c <= limit(code, 2)
+    let row = (code - 1) as usize;
+    within(LIMITS[row], a, b, c)
 }
 
 // Whether the pair that a grant or revoke names is a permission; the other requests name none.

@@ -57,7 +57,7 @@ module _ (t direct permissions : List ℕ) where
   answers e = ap (λ (o : Outcome (List ℕ)). o .answer) e
 
 pub cycle-refused : CycleRefused
-unfolding acyclic refuse accept
+unfolding acyclic
 cycle-refused t direct permissions e d p = (λ r. found r, λ c. ap (λ (o : Outcome (List ℕ)). o .answer) (set-up-cycle t direct permissions (is-table t e) d p (cyclic c)))
   where
     found : roleSetUp t direct permissions .answer ≡ 20 → Cycle direct
@@ -86,7 +86,6 @@ cycle-refused t direct permissions e d p = (λ r. found r, λ c. ap (λ (o : Out
         (reaches-closure direct (c .second) (c .first) (c .second-below) (c .first-below) (c .back)))))
 
 pub set-up-sound : SetUpSound
-unfolding refuse accept
 set-up-sound t direct permissions a =
     by-outcome t direct permissions
     (λ n k e. absurd (k (sym (answers t direct permissions e) ∙ a)))
@@ -95,14 +94,12 @@ set-up-sound t direct permissions a =
     ∙ sound-intro _ (fresh-sound direct permissions (p .no-cycle)))
 
 pub set-up-refused : SetUpRefused
-unfolding refuse accept
 set-up-refused t direct permissions n =
     by-outcome t direct permissions
     (λ k h e. ap (λ (o : Outcome (List ℕ)). o .state) e)
     (λ p. absurd (n (answers t direct permissions (accepted t direct permissions p))))
 
 pub old-contents : OldContents
-unfolding refuse accept
 old-contents t t′ direct permissions l a =
     by-outcome t direct permissions
     (λ k h e. absurd (h (sym (answers t direct permissions e) ∙ a)))

@@ -5,7 +5,7 @@ use mathlib.Core.Bool.{Bool, true}
 use native.Mathlib.Omega.{arith}
 use lib.Dec.{eqb}
 use borrow.Author.Tests.{eq-eqb, eqb-true}
-use Rattle.bits.specs.Words.{_and_, _or_, has, all}
+use Rattle.bits.specs.Words.{_and_, has, all}
 use Rattle.bits.specs.Sets.{join}
 use Rattle.bits.proofs.Truth.{clash, is-false, same-truth, and-intro, and-left, and-right, or-left, or-right, false-or}
 use Rattle.bits.proofs.Below.{all-elim, all-intro, all-none, all-more}

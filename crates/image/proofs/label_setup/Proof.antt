@@ -4,7 +4,6 @@ use mathlib.Core.Path.{refl}
 use borrow.Author.Tests.{ne-eqb}
 use Rattle.bits.proofs.Truth.{confirmed, refuted, false-and, and-false}
 use Rattle.table.proofs.Table.{is-table, not-table}
-use Rattle.roles.specs.Request.{accept}
 use Rattle.roles.proofs.Guarding.{comes-to, refused, both}
 use Rattle.image.proofs.Accepting.{set-up-short, set-up-lists, set-up-values, set-up-accepted}
 use Rattle.image.proofs.label_setup.Statement.{statement}
@@ -27,7 +26,6 @@ returns-5 c =
     refused)
 
 returns-6 : tie.Need-returns-6
-unfolding accept
 returns-6 c =
     let written = c .before .before in
     let second = written .before .before in

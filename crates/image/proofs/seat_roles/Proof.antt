@@ -3,7 +3,6 @@ use borrow.Author.Needs.{needs}
 use Prim.Native.Nat.{ℕ, _+_}
 use mathlib.Core.Path.{sym, ap, ap₂, _∙_}
 use Rattle.bits.specs.Words.{_with_}
-use Rattle.image.specs.Image.{seatRoles}
 use Rattle.image.proofs.Reading.{idle-roles, busy-roles}
 use Rattle.image.proofs.seat_roles.Statement.{statement}
 use Rattle.image.proofs.seat_roles.Tie as tie

@@ -4,7 +4,7 @@ use Prim.Native.Nat.{ℕ}
 use mathlib.Core.Path.{ap, ap₂, _∙_}
 use mathlib.Core.List.{List}
 use Rattle.table.specs.Answers.{overlay, clearedFrom}
-use Rattle.image.proofs.Rows.{rows, masks}
+use Rattle.image.proofs.Rows.{masks}
 use Rattle.image.proofs.Writing.{written-image}
 use Rattle.image.proofs.write_image.Statement.{statement}
 use Rattle.image.proofs.write_image.Tie as tie

@@ -1,6 +1,6 @@
 -- `request` meets its contract: the refusals in their order, then the request on a sound image. Assumes nothing.
 use borrow.Author.Needs.{needs}
-use mathlib.Core.Path.{sym, _∙_}
+use mathlib.Core.Path.{sym}
 use Rattle.bits.proofs.Truth.{confirmed, refuted}
 use Rattle.table.proofs.Table.{is-table, not-table}
 use Rattle.sound.proofs.Answers.{sound-state, unsound-state}

@@ -1,13 +1,12 @@
 -- `act` meets its contract. Assumes nothing.
 use borrow.Author.Needs.{needs}
-use Rattle.roles.specs.Request.{refuse}
 use Rattle.ledger.specs.Step.{step}
 use Rattle.ledger.proofs.Lifting.{lift-line}
 use Rattle.ledger.proofs.act.Statement.{statement}
 use Rattle.ledger.proofs.act.Tie as tie
 
 pub act-spec : {M : Type 1} → statement M
-unfolding step refuse
+unfolding step
 act-spec =
     tie.close
     (tie.spec

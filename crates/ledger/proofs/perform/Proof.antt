@@ -1,6 +1,5 @@
 -- `perform` meets its contract. Assumes nothing.
 use borrow.Author.Needs.{needs}
-use Rattle.roles.specs.Request.{refuse, accept}
 use Rattle.ledger.specs.Store.{store}
 use Rattle.ledger.specs.Step.{put, performed}
 use Rattle.ledger.proofs.Lifting.{lift, lift-run}
@@ -8,7 +7,7 @@ use Rattle.ledger.proofs.perform.Statement.{statement}
 use Rattle.ledger.proofs.perform.Tie as tie
 
 pub perform-spec : {M : Type 1} → statement M
-unfolding performed put refuse accept
+unfolding performed put
 perform-spec =
     tie.close
     (tie.spec

@@ -8,7 +8,6 @@ use borrow.Author.Tests.{ne-eqb}
 use Rattle.bits.proofs.Truth.{confirmed, refuted, false-and, and-false}
 use Rattle.table.specs.Answers.{overlay, clearedFrom}
 use Rattle.table.proofs.Table.{is-table, not-table}
-use Rattle.roles.specs.Request.{accept}
 use Rattle.roles.proofs.Guarding.{comes-to, refused, both}
 use Rattle.setup.specs.Closure.{closure, acyclic}
 use Rattle.setup.proofs.Closure.{closure-length}
@@ -44,7 +43,6 @@ same-length c =
     cleared .clear-from .kept .0 ∙ second .overlay2 .kept .0 ∙ first .overlay .kept .0
 
 returns-5 : tie.Need-returns-5
-unfolding accept
 returns-5 c =
     let cleared = c .before .before in
     let second = cleared .before .before .before .before in

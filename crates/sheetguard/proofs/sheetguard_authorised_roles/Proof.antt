@@ -2,10 +2,9 @@
 use borrow.Author.Needs.{needs}
 use Prim.Native.Nat.{ℕ, suc-le-suc}
 use mathlib.Core.Path.{sym, ap, _∙_}
-use mathlib.Core.List.{List, [], _∷_}
+use mathlib.Core.List.{[], _∷_}
 use borrow.Author.Tests.{eq-eqb, ne-eqb, lt-ltb, le-ltb}
 use Rattle.bits.proofs.Truth.{confirmed, refuted, and-intro, false-and, and-false}
-use Rattle.table.specs.Answers.{authorisedRoles}
 use Rattle.table.proofs.Table.{is-table, not-table}
 use Rattle.sound.proofs.Answers.{sound-state, unsound-state}
 use Rattle.sheetguard.specs.Reading.{told, readRoles}

@@ -1,8 +1,7 @@
 -- `sheetguard_effective_permissions` meets its contract: the refusals in their order, then the words. Assumes nothing.
 use borrow.Author.Needs.{needs}
-use Prim.Native.Nat.{ℕ, suc-le-suc}
+use Prim.Native.Nat.{suc-le-suc}
 use mathlib.Core.Path.{sym, ap, _∙_}
-use mathlib.Core.List.{List, [], _∷_}
 use borrow.Author.Tests.{eq-eqb, ne-eqb, lt-ltb, le-ltb}
 use Rattle.bits.proofs.Truth.{confirmed, refuted, and-intro, false-and, and-false}
 use Rattle.table.specs.Answers.{overlay}
