@@ -2,6 +2,8 @@
 use libc::STDIN_FILENO;
 use libc::STDOUT_FILENO;
 use transcript::Progress;
+ghost use Rattle.transcript.specs.Stream.{standing, started};
+ghost use Rattle.guard.specs.Block.{Behind, Led};
 
 // What came of a block: where the transcript stands, and whether its output was written.
 struct Block {
@@ -19,7 +21,9 @@ fn serve_block(
     labels: &mut [u8],
     block: &[u8],
     out: &mut [u8],
-) -> Block {
+) -> Block
+    ensures { λ r. ⌜ Behind (r .written) (standing p (now (table .entry)) (now (juniors .entry)) (now (permissions .entry)) (now (clearances .entry)) (now (labels .entry))) (now (block .entry)) (standing (r .progress) (now (table .exit)) (now (juniors .exit)) (now (permissions .exit)) (now (clearances .exit)) (now (labels .exit))) ⌝ }
+{
     let mut q = p;
     let mut at: usize = 0;
     while at < block.len() {
@@ -66,7 +70,9 @@ fn serve_all(
     labels: &mut [u8],
     block: &mut [u8],
     out: &mut [u8],
-) -> Block {
+) -> Block
+    ensures { λ r. ⌜ Led (r .written) (standing started (now (table .entry)) (now (juniors .entry)) (now (permissions .entry)) (now (clearances .entry)) (now (labels .entry))) (standing (r .progress) (now (table .exit)) (now (juniors .exit)) (now (permissions .exit)) (now (clearances .exit)) (now (labels .exit))) ⌝ }
+{
     let mut q = transcript::start();
     let mut turns: u64 = 70368744177664;
     while turns > 0 {

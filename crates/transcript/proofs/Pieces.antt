@@ -1,18 +1,25 @@
 -- Bytes in pieces: what a block comes to is what was served of it, and then what is left. Assumes nothing.
-use Prim.Native.Nat.{ℕ, suc, _+_, _-_}
-use mathlib.Core.Path.{_≡_, refl, sym, ap, _∙_}
+use Prim.Native.Nat.{ℕ, zero, suc, _+_, _-_, _≤_}
+use mathlib.Core.Path.{_≡_, refl, sym, ap, ap₂, _∙_}
 use mathlib.Core.Bool.{Bool, true, false}
 use mathlib.Core.List.{List, [], _∷_, _++_, append-assoc}
+use native.Mathlib.Nat.{le-of-suc-le-suc}
 use native.Mathlib.Omega.{arith}
 use lib.Dec.{eqb}
 use lib.ListN.{length, drop}
+use lib.Seq.{drop-nil, drop-drop}
 use Rattle.bits.specs.Words.{_and_, if_then_else_}
 use Rattle.lines.specs.Reader.{stepOf}
 use Rattle.ledger.specs.Step.{Guards}
-use Rattle.transcript.specs.Stream.{Standing, reading, replied, reply, after, emitted, Stop, halt, ahead, full, serving}
+use Rattle.transcript.specs.Stream.{Standing, reading, replied, reply, after, emitted, Stop, halt, ahead, full, serving, IsServed}
 
 drop-one : (n b : ℕ) (l : List ℕ) → drop n l ≡ drop (1 + n) (b ∷ l)
 drop-one n b l = let e : suc n ≡ 1 + n = omega arith in ap (λ (k : ℕ). drop k (b ∷ l)) e
+
+drop-past : (l : List ℕ) (n : ℕ) → length l ≤ n → drop n l ≡ []
+drop-past [] n h = drop-nil n
+drop-past (b ∷ l) zero h = absurd (omega arith)
+drop-past (b ∷ l) (suc n) h = drop-past l n (le-of-suc-le-suc h)
 
 module _ (G : Guards) where
   pub after-append : (p : Standing) (l m : List ℕ) → after G p (l ++ m) ≡ after G (after G p l) m
@@ -61,3 +68,19 @@ module _ (G : Guards) where
         y .0 ∙ ap (after G (byte .stands)) (drop-one (byte .read) b l),
         y .1 ∙ ap (λ (m : List ℕ). byte .wrote ++ emitted G (byte .stands) m) (drop-one (byte .read) b l),
       )
+
+  -- a block served from a place on leads where its bytes from that place lead
+  pub served-on : (room : ℕ) (p q : Standing) (block out out′ : List ℕ) (at next used : ℕ)
+      → IsServed (serving G room true p (drop at block)) at out q next used out′ → after G q (drop next block) ≡ after G p (drop at block)
+  served-on room p q block out out′ at next used s =
+      let stop = serving G room true p (drop at block) in
+      ap₂ (λ (r : Standing) (n : ℕ). after G r (drop n block)) (s .stands-is) (s .next-is)
+      ∙ ap (after G (stop .stands)) (sym (drop-drop (stop .read) at block))
+      ∙ sym (serving-splits room true p (drop at block) .0)
+
+  pub after-none : (p : Standing) → after G p [] ≡ p
+  unfolding after
+  after-none p = refl
+
+  pub at-end : (p : Standing) (block : List ℕ) (at : ℕ) → length block ≤ at → after G p (drop at block) ≡ p
+  at-end p block at h = ap (after G p) (drop-past block at h) ∙ after-none p

@@ -1,7 +1,12 @@
--- `serve_all` meets its contract. Its loop keeps the lengths of what is lent, and its turns fall. Assumes nothing.
+-- `serve_all` meets its contract: the blocks so far have led to where it stands. Assumes nothing.
 use borrow.Author.Needs.{needs}
 use mathlib.Core.Path.{_≡_, _∙_, refl}
+use mathlib.Core.Bool.{true}
 use lib.ListN.{length}
+use Rattle.bits.proofs.Truth.{confirmed}
+use Rattle.transcript.specs.Stream.{standing, started}
+use Rattle.guard.specs.Block.{Led}
+use Rattle.guard.proofs.Leading.{unwritten, led-start, led-on}
 use Rattle.guard.proofs.serve_all.Statement.{statement}
 use Rattle.guard.proofs.serve_all.Tie as tie
 
@@ -9,6 +14,7 @@ abbrev Inv-loop : tie.InvT-loop
 Inv-loop table₀ juniors₀ permissions₀ clearances₀ labels₀ block₀ out₀ q₀ turns₀ table juniors permissions clearances labels block out q turns =
     (length table ≡ length table₀) × (length juniors ≡ length juniors₀) × (length permissions ≡ length permissions₀)
     × (length clearances ≡ length clearances₀) × (length labels ≡ length labels₀) × (length block ≡ length block₀) × (length out ≡ length out₀)
+    × Led true (standing started table₀ juniors₀ permissions₀ clearances₀ labels₀) (standing q table juniors permissions clearances labels)
 
 abbrev μ-loop : tie.MeasureT-loop
 μ-loop table₀ juniors₀ permissions₀ clearances₀ labels₀ block₀ out₀ q₀ turns₀ table juniors permissions clearances labels block out q turns = turns
@@ -22,6 +28,7 @@ loop-again c = (
   c .before .before .before .before .before .before .before .before .before .before .before .before .before .before .before .serve-block .kept .1 .1 .1 .1 .1 .0 ∙ c .before .before .before .before .before .before .before .before .before .before .before .before .before .before .before .before .before .before .before .before .before .before .before .before .before .before .before .before .before .before .before .loop .inv .4,
   c .before .before .before .before .before .before .before .before .before .before .before .before .before .before .before .before .before .before .before .before .before .before .before .before .before .before .before .before .read .kept .1 .0 ∙ c .before .before .before .before .before .before .before .before .before .before .before .before .before .before .before .before .before .before .before .before .before .before .before .before .before .before .before .before .before .before .before .loop .inv .5,
   c .before .before .before .before .before .before .before .before .before .before .before .before .before .before .before .serve-block .kept .1 .1 .1 .1 .1 .1 .1 .0 ∙ c .before .before .before .before .before .before .before .before .before .before .before .before .before .before .before .before .before .before .before .before .before .before .before .before .before .before .before .before .before .before .before .loop .inv .6,
+  led-on (c .before .before .before .before .before .before .before .before .before .before .before .before .before .before .before .before .before .before .before .before .before .before .before .before .before .before .before .before .before .before .before .loop .inv .7) (c .before .before .before .before .before .before .before .before .before .before .before .before .before .before .before .serve-block .ensures) (confirmed refl (c .if2 .left)),
 )
 
 pub serve-all-spec : {M : Type 1} → statement M
@@ -31,7 +38,7 @@ serve-all-spec =
     Inv-loop
     μ-loop
     (λ c κs. search needs)
-    (λ c. (refl, refl, refl, refl, refl, refl, refl))
+    (λ c. (refl, refl, refl, refl, refl, refl, refl, led-start _ _ _ _ _ (c .start .ensures)))
     (λ c κs. search needs)
     (λ c κs. search needs)
     (λ c. c .before .before .before .before .before .before .before .before .loop .inv .0)
@@ -41,7 +48,7 @@ serve-all-spec =
     (λ c. c .before .before .before .before .before .before .before .before .loop .inv .4)
     (λ c. c .before .before .before .before .before .read .kept .1 .0 ∙ c .before .before .before .before .before .before .before .before .loop .inv .5)
     (λ c. c .before .before .before .before .before .before .before .before .loop .inv .6)
-    (λ c. search needs)
+    (λ c. c .before .before .before .before .before .before .before .before .loop .inv .7)
     (λ c. search needs)
     (λ c. search needs)
     (λ c κs. search needs)
@@ -52,7 +59,7 @@ serve-all-spec =
     (λ c. c .before .before .before .before .before .before .before .before .before .before .before .before .before .before .before .serve-block .kept .1 .1 .1 .1 .1 .0 ∙ c .before .before .before .before .before .before .before .before .before .before .before .before .before .before .before .before .before .before .before .before .before .before .before .before .before .before .before .before .before .before .before .loop .inv .4)
     (λ c. c .before .before .before .before .before .before .before .before .before .before .before .before .before .before .before .before .before .before .before .before .before .before .before .before .before .before .before .before .read .kept .1 .0 ∙ c .before .before .before .before .before .before .before .before .before .before .before .before .before .before .before .before .before .before .before .before .before .before .before .before .before .before .before .before .before .before .before .loop .inv .5)
     (λ c. c .before .before .before .before .before .before .before .before .before .before .before .before .before .before .before .serve-block .kept .1 .1 .1 .1 .1 .1 .1 .0 ∙ c .before .before .before .before .before .before .before .before .before .before .before .before .before .before .before .before .before .before .before .before .before .before .before .before .before .before .before .before .before .before .before .loop .inv .6)
-    (λ c. search needs)
+    (λ c. unwritten)
     (λ c. search needs)
     (λ c. search needs)
     loop-again
@@ -63,4 +70,4 @@ serve-all-spec =
     (λ c. c .before .loop .inv .4)
     (λ c. c .before .loop .inv .5)
     (λ c. c .before .loop .inv .6)
-    (λ c. search needs))
+    (λ c. unwritten))
