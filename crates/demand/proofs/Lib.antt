@@ -8,5 +8,6 @@ pub mod Simulation
 pub mod Demand
 pub mod Toward
 pub mod Reaching
+pub mod Reachable
 pub mod Listing
 pub mod Running

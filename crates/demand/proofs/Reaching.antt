@@ -1,4 +1,4 @@
--- A state is safe exactly when the machine can reach it: the claims of specs/Claims.antt. Assumes nothing.
+-- What is safe is reached: the sessions are started one after the other, and each opens what it holds. Assumes nothing.
 use Prim.Native.Nat.{ℕ, _<_}
 use mathlib.Core.Path.{_≡_, refl, sym, ap, ap₂, subst, _∙_}
 use mathlib.Core.Bool.{Bool, true, false}
@@ -8,48 +8,20 @@ use borrow.Author.Tests.{eq-eqb, eqb-true, lt-ltb}
 use Rattle.bits.specs.Words.{_and_}
 use Rattle.bits.proofs.Truth.{clash, by-truth, same-truth, if-true, if-false, and-intro, and-left, and-right}
 use Rattle.bits.proofs.Below.{all-intro}
-use Rattle.table.specs.Reading.{tableLength}
-use Rattle.table.specs.Table.{isTable, tabulate}
+use Rattle.table.specs.Table.{tabulate}
 use Rattle.table.proofs.Agree.{by-upd, upd-same}
 use Rattle.table.proofs.Tabulate.{length-tabulate, getD-tabulate}
-use Rattle.table.proofs.Table.{is-table}
-use Rattle.sound.specs.Answers.{isSound}
 use Rattle.roles.specs.Request.{ask, Outcome}
 use Rattle.machine.specs.Label.{dominates}
 use Rattle.machine.specs.Machine.{Machine, Seat, idle, at, isIdle, mayOpen, withHeld, withSeat, step, begin}
-use Rattle.machine.specs.Wall.{final}
 use Rattle.machine.proofs.Seats.{idle-at}
 use Rattle.machine.proofs.Steps.{opens, starts}
-use Rattle.machine.proofs.Tracing.{final-none, final-keeps}
+use Rattle.machine.proofs.Tracing.{final-none}
 use Rattle.image.specs.SetUp.{areLabels}
 use Rattle.image.specs.Claims.{Ranged, Safe}
-use Rattle.image.proofs.Claims.{sound-image, image-means}
 use Rattle.image.proofs.Beginning.{accepted, begin-ranged, begin-safe}
-use Rattle.demand.specs.Claims.{Same, Reachable, ReachableImage, ReachableMeans}
-use Rattle.demand.proofs.Simulation.{Good, next-good}
-use Rattle.demand.proofs.Demand.{begin-good}
+use Rattle.demand.specs.Claims.{Same, Reachable}
 use Rattle.demand.proofs.Toward.{clearances, labels, Toward, Further, stay, through, sweep, asked, good-after}
-
--- ---- what is reached is safe
-
-module _ {m n : Machine} where
-  same-ranged : Same m n → Ranged n → Ranged m
-  same-ranged e g = record {
-    clearances = λ u h. subst (λ (c : ℕ). c < 32) (sym (e .clearances u h)) (g .clearances u h);
-    labels = λ o h. subst (λ (l : ℕ). l < 32) (sym (e .labels o h)) (g .labels o h);
-    seats = λ s u y h z. g .seats s u y h (sym (e .seats s h) ∙ z);
-  }
-
-  same-safe : Ranged m → Same m n → Safe n → Safe m
-  same-safe g e f = record {
-    cleared = λ s u y h z.
-        ap (λ (c : ℕ). dominates c y) (e .clearances u (g .seats s u y h z .0)) ∙ f .cleared s u y h (sym (e .seats s h) ∙ z);
-    openings = λ s o x hs ho hx z.
-        ap₂ (λ (k : Seat) (l : ℕ). mayOpen k l x) (e .seats s hs) (e .labels o ho)
-        ∙ f .openings s o x hs ho hx (sym (e .openings s o x hs ho hx) ∙ z);
-  }
-
--- ---- what is safe is reached: the sessions are started one after the other, and each opens what it holds
 
 module _ (m : Machine) (g : Ranged m) (f : Safe m) where
   -- session s opens o in mode x
@@ -186,7 +158,7 @@ module _ (m : Machine) (g : Ranged m) (f : Safe m) where
     openings = λ s o x hs ho hx e. clash e refl;
   }
 
-  safe-reached : Reachable m
+  pub safe-reached : Reachable m
   safe-reached =
       let a = serve-all (begin (clearances m) (labels m)) begins in
       let t = a .toward in
@@ -208,37 +180,3 @@ module _ (m : Machine) (g : Ranged m) (f : Safe m) where
           openings = λ s o x hs ho hx. same-truth (a .has s hs .openings o ho x hx) (t .openings s o x hs ho hx);
         });
       }
-
--- ---- the claims
-
-blank : List ℕ
-blank = tabulate tableLength (λ i. 0)
-
-is-blank : isTable blank ≡ true
-unfolding blank
-is-blank = is-table _ (length-tabulate tableLength (λ i. 0))
-
-reached-good : {m : Machine} (r : Reachable m) → Good (final step (begin (r .clearances) (r .labels)) (r .requests))
-reached-good r =
-    final-keeps step Good next-good (r .requests) (begin (r .clearances) (r .labels)) (begin-good blank (r .clearances) (r .labels) (r .accepted blank is-blank))
-
-reached-ranged : {m : Machine} → Reachable m → Ranged m
-reached-ranged r = same-ranged (r .reached) (reached-good r .ranged)
-
-pub reachable-image : ReachableImage
-reachable-image m g = (
-  λ e. safe-reached m g (sound-image m g .0 e),
-  λ r. sound-image m g .1 (same-safe g (r .reached) (reached-good r .safe)),
-)
-
-pub reachable-means : ReachableMeans
-reachable-means t w s = (
-  λ i.
-      let p = image-means t w s .0 i in
-      record {
-        machine = p .machine;
-        reachable = reachable-image (p .machine) (p .ranged) .0 (sym (ap isSound (p .is-image)) ∙ s);
-        is-image = p .is-image;
-      },
-  λ p. image-means t w s .1 (record { machine = p .machine; ranged = reached-ranged (p .reachable); is-image = p .is-image }),
-)

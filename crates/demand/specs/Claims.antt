@@ -1,4 +1,4 @@
--- What is claimed of the states that the machine reaches, each as the answer to a question. proofs/Reaching.antt proves them.
+-- What is claimed of the states that the machine reaches, each as the answer to a question. proofs/Reachable.antt proves them.
 use mathlib.Core.Logic.{_↔_}
 use Rattle.bits.specs.Words.{ℕ, _^_, _<_, _≡_, true, List}
 use Rattle.table.specs.Table.{isTable}
