@@ -6,9 +6,10 @@
  * The guard keeps nothing. The caller lends it a table of SHEETGUARD_WORDS words at each call and stores the table as it
  * likes. Every function returns, whatever the words and numbers are, and answers with a number:
  *
- *     SHEETGUARD_YES, SHEETGUARD_NO, or a refusal, 12 to 20, the first that fits in the order of the numbers.
+ *     SHEETGUARD_YES, SHEETGUARD_NO, or a refusal, 12 to 20, the first that fits in the order of the numbers (of two
+ *     tables, the first table's before the second's).
  *
- * A no and a refusal leave all that is lent unchanged, but for *spent, which a refusal sets to 0.
+ * A no and a refusal leave all that is lent unchanged, but for *spent, which every label request writes: 0 at a refusal.
  *
  * What a caller owes:
  *   - a pointer is never NULL, also where its length is 0, and is aligned for its type;

@@ -73,9 +73,11 @@ fn check(cases: &[(&str, u64)]) {
     assert_eq!(got, wanted, "{input}");
 }
 
-const LISTING: &str = "lattice\nclear\t4\t17\nlabel\t7\t9\nlabel\t8\t25\nrun\nstart\t2\t4\t17\nopen\t2\t7\t0\nopen\t2\t7\t1\n\
+const LISTING: &str =
+    "lattice\nclear\t4\t17\nlabel\t7\t9\nlabel\t8\t25\nrun\nstart\t2\t4\t17\nopen\t2\t7\t0\nopen\t2\t7\t1\n\
 open\t2\t8\t1\nstart\t3\t4\t18\nreclear\t4\t9\nend\t2\nreclear\t4\t9\n";
-const LISTED: &str = "line\tanswer\tspent\n1\t1\t0\n2\t1\t0\n3\t1\t0\n4\t1\t0\n5\t1\t0\n6\t1\t3\n7\t1\t1\n8\t0\t1\n9\t1\t1\n\
+const LISTED: &str =
+    "line\tanswer\tspent\n1\t1\t0\n2\t1\t0\n3\t1\t0\n4\t1\t0\n5\t1\t0\n6\t1\t3\n7\t1\t1\n8\t0\t1\n9\t1\t1\n\
 10\t0\t3\n11\t0\t3\n12\t1\t1\n13\t1\t2\n";
 
 #[test]
@@ -338,8 +340,10 @@ impl Numbers {
 }
 
 fn random_lines(seed: u64, mode: &str, count: usize) -> String {
-    let words = ["above", "permit", "clear", "label", "run", "open", "close", "start", "end", "activate", "drop", "assign",
-        "deassign", "grant", "revoke", "reclear", "roles", "lattice", "", "nothing"];
+    let words = [
+        "above", "permit", "clear", "label", "run", "open", "close", "start", "end", "activate", "drop", "assign",
+        "deassign", "grant", "revoke", "reclear", "roles", "lattice", "", "nothing",
+    ];
     let mut numbers = Numbers(seed);
     let mut input = format!("{mode}\n");
     for _ in 0..count {
@@ -389,16 +393,26 @@ fn more_than_a_block() {
     }
 }
 
+const COMPLAINT: &[u8] = b"guard: not all was read and written\n";
+
 #[test]
 fn output_that_cannot_be_written() {
     let mut child = Command::new(program())
         .stdin(Stdio::piped())
         .stdout(std::fs::File::create("/dev/full").unwrap())
+        .stderr(Stdio::piped())
         .spawn()
         .unwrap();
     let mut stdin = child.stdin.take().unwrap();
     // the program has ended without reading: a write may fail, and that is right
     let _ = stdin.write_all(b"roles\n");
     drop(stdin);
-    child.wait().unwrap();
+    assert_eq!(child.wait_with_output().unwrap().stderr, COMPLAINT);
+}
+
+#[test]
+fn input_that_cannot_be_read() {
+    let output = Command::new(program()).stdin(std::fs::File::open("/").unwrap()).output().unwrap();
+    assert_eq!(output.stdout, b"line\tanswer\tspent\n");
+    assert_eq!(output.stderr, COMPLAINT);
 }

@@ -27,7 +27,7 @@ led-start table juniors permissions clearances labels {p} e = record {
 }
 
 -- a block more
-pub led-on : {start p q : Standing} {block : List ℕ} {written : Bool} → Led true start p → Behind written p block q → written ≡ true → Led true start q
+pub led-on : {start p q : Standing} {block : List ℕ} {whole : Bool} → Led true start p → Behind whole p block q → whole ≡ true → Led true start q
 led-on {start} {p} {q} {block} l b w = record {
   input = l .input ++ block;
   stands-is = λ z.

@@ -4,11 +4,11 @@ use Rattle.bits.specs.Words.{ℕ, _≡_, Bool, true, List}
 use Rattle.ledger.specs.Step.{unguarded}
 use Rattle.transcript.specs.Stream.{Standing, after}
 
--- where the output was written, the transcript stands where the whole block leads
-pub record Behind (written : Bool) (start : Standing) (block : List ℕ) (stands : Standing) : Type 0 where
-  pub stands-is : written ≡ true → stands ≡ after unguarded start block
+-- where its output was written, the transcript stands where the whole block leads
+pub record Behind (whole : Bool) (start : Standing) (block : List ℕ) (stands : Standing) : Type 0 where
+  pub stands-is : whole ≡ true → stands ≡ after unguarded start block
 
--- where the output was written, the transcript stands where some input leads
-pub record Led (written : Bool) (start stands : Standing) : Type 0 where
+-- where all was read and written, the transcript stands where some input leads
+pub record Led (whole : Bool) (start stands : Standing) : Type 0 where
   pub input : List ℕ
-  pub stands-is : written ≡ true → stands ≡ after unguarded start input
+  pub stands-is : whole ≡ true → stands ≡ after unguarded start input

@@ -1,14 +1,15 @@
 // The transcript program: standard input to standard output.
+use libc::STDERR_FILENO;
 use libc::STDIN_FILENO;
 use libc::STDOUT_FILENO;
 use transcript::Progress;
 ghost use Rattle.transcript.specs.Stream.{standing, started};
 ghost use Rattle.guard.specs.Block.{Behind, Led};
 
-// What came of a block: where the transcript stands, and whether its output was written.
+// What came of input: where the transcript stands, and whether all was read and written.
 struct Block {
     progress: Progress,
-    written: bool,
+    whole: bool,
 }
 
 // Serves a whole block, and writes what comes of it.
@@ -22,7 +23,7 @@ fn serve_block(
     block: &[u8],
     out: &mut [u8],
 ) -> Block
-    ensures { λ r. ⌜ Behind (r .written) (standing p (now (table .entry)) (now (juniors .entry)) (now (permissions .entry)) (now (clearances .entry)) (now (labels .entry))) (now (block .entry)) (standing (r .progress) (now (table .exit)) (now (juniors .exit)) (now (permissions .exit)) (now (clearances .exit)) (now (labels .exit))) ⌝ }
+    ensures { λ r. ⌜ Behind (r .whole) (standing p (now (table .entry)) (now (juniors .entry)) (now (permissions .entry)) (now (clearances .entry)) (now (labels .entry))) (now (block .entry)) (standing (r .progress) (now (table .exit)) (now (juniors .exit)) (now (permissions .exit)) (now (clearances .exit)) (now (labels .exit))) ⌝ }
 {
     let mut q = p;
     let mut at: usize = 0;
@@ -44,24 +45,24 @@ fn serve_block(
         if !io::write_all(STDOUT_FILENO, &out[..used]) {
             return Block {
                 progress: q,
-                written: false,
+                whole: false,
             };
         }
         if next <= at {
             return Block {
                 progress: q,
-                written: false,
+                whole: false,
             };
         }
         at = next;
     }
     Block {
         progress: q,
-        written: true,
+        whole: true,
     }
 }
 
-// Reads the input to its end, and answers whether all output was written. The turns are more than any run uses up.
+// Reads the input to its end. The turns are more than any run uses up.
 fn serve_all(
     table: &mut [u64],
     juniors: &mut [u64],
@@ -71,17 +72,23 @@ fn serve_all(
     block: &mut [u8],
     out: &mut [u8],
 ) -> Block
-    ensures { λ r. ⌜ Led (r .written) (standing started (now (table .entry)) (now (juniors .entry)) (now (permissions .entry)) (now (clearances .entry)) (now (labels .entry))) (standing (r .progress) (now (table .exit)) (now (juniors .exit)) (now (permissions .exit)) (now (clearances .exit)) (now (labels .exit))) ⌝ }
+    ensures { λ r. ⌜ Led (r .whole) (standing started (now (table .entry)) (now (juniors .entry)) (now (permissions .entry)) (now (clearances .entry)) (now (labels .entry))) (standing (r .progress) (now (table .exit)) (now (juniors .exit)) (now (permissions .exit)) (now (clearances .exit)) (now (labels .exit))) ⌝ }
 {
     let mut q = transcript::start();
     let mut turns: u64 = 70368744177664;
     while turns > 0 {
         let got = libc::read(STDIN_FILENO, block);
+        if got < 0 {
+            return Block {
+                progress: q,
+                whole: false,
+            };
+        }
         let n = io::count(got, block);
         if n == 0 {
             return Block {
                 progress: q,
-                written: true,
+                whole: true,
             };
         }
         let b = serve_block(
@@ -95,23 +102,29 @@ fn serve_all(
             out,
         );
         q = b.progress;
-        if !b.written {
+        if !b.whole {
             return Block {
                 progress: q,
-                written: false,
+                whole: false,
             };
         }
         turns -= 1;
     }
     Block {
         progress: q,
-        written: false,
+        whole: false,
     }
+}
+
+// Says on standard error what no exit status can say here.
+fn complain() {
+    io::write_all(STDERR_FILENO, b"guard: not all was read and written\n");
 }
 
 fn main() {
     let head = output::header();
     if !io::write_all(STDOUT_FILENO, &head) {
+        complain();
         return;
     }
     let mut table = [0u64; 968];
@@ -130,9 +143,12 @@ fn main() {
         &mut block,
         &mut out,
     );
-    if !b.written {
+    if !b.whole {
+        complain();
         return;
     }
     let k = transcript::conclude(b.progress, &mut out);
-    io::write_all(STDOUT_FILENO, &out[..k]);
+    if !io::write_all(STDOUT_FILENO, &out[..k]) {
+        complain();
+    }
 }
