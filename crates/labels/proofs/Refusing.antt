@@ -1,6 +1,6 @@
 -- The label guard's refusals in their order, and what follows them. Assumes nothing.
 use Prim.Native.Nat.{ℕ, _≤_, _<_}
-use mathlib.Core.Path.{_≡_, ap, _∙_}
+use mathlib.Core.Path.{_≡_, _∙_}
 use mathlib.Core.Bool.{true, false}
 use mathlib.Core.List.{List}
 use lib.ListN.{length}
@@ -12,7 +12,7 @@ use Rattle.table.specs.Table.{isTable}
 use Rattle.table.proofs.Table.{is-table}
 use Rattle.roles.specs.Request.{Ask, ask, refuse}
 use Rattle.roles.specs.Guard.{roleStep, soundStep}
-use Rattle.machine.specs.Machine.{Request, isCode, inRange, decode}
+use Rattle.machine.specs.Machine.{isCode, inRange, decode}
 use Rattle.image.specs.Test.{isImage}
 use Rattle.labels.specs.Guard.{RoleGuard, plan, carryOut, translated, labelStep, imageStep}
 
@@ -74,8 +74,7 @@ module _ (t : List ℕ) (q : Ask) where
 -- ---- past refusals 12, 15 and 16
 
 module _ (t : List ℕ) (code a b c : ℕ) (e : length t ≡ tableLength) (l : 1 ≤ code) (h : code ≤ 5) (i : inRange (ask code a b c) ≡ true) where
-  pub image-step-plan : {r : Request} → decode (ask code a b c) ≡ r → imageStep t (ask code a b c) ≡ carryOut soundStep t (plan soundStep t r)
-  image-step-plan z =
+  pub image-step-plan : imageStep t (ask code a b c) ≡ carryOut soundStep t (plan soundStep t (decode (ask code a b c)))
+  image-step-plan =
       image-step-table t (ask code a b c) (is-table t e)
       ∙ translated-plan soundStep t (ask code a b c) (is-code (ask code a b c) l h) i
-      ∙ ap (λ (p : Request). carryOut soundStep t (plan soundStep t p)) z

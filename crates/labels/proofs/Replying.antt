@@ -3,8 +3,11 @@ use Prim.Native.Nat.{ℕ}
 use mathlib.Core.Path.{_≡_, sym, ap, _∙_}
 use mathlib.Core.List.{List}
 use Rattle.roles.specs.Request.{Outcome, refuse}
+use Rattle.roles.specs.Guard.{soundStep}
 use Rattle.roles.specs.Answer.{numberOf}
+use Rattle.machine.specs.Machine.{Request}
 use Rattle.labels.specs.declared.LabelAnswer.{LabelAnswer}
+use Rattle.labels.specs.Guard.{plan, carryOut}
 use Rattle.labels.specs.Reply.{Replied}
 
 pub reply : {r : LabelAnswer} {t : List ℕ} {o : Outcome (List ℕ)} (n f : ℕ) (t′ : List ℕ)
@@ -22,6 +25,11 @@ replied-as e p = record {
   table = p .table ∙ sym (ap (λ (p : Outcome (List ℕ)). p .state) e);
 }
 
+-- the reply to a request that is known by another name
+pub planned-as : {r : LabelAnswer} {t′ : List ℕ} (t : List ℕ) {p q : Request} → p ≡ q → Replied r t′ (carryOut soundStep t (plan soundStep t q))
+    → Replied r t′ (carryOut soundStep t (plan soundStep t p))
+planned-as t e = replied-as (ap (λ (p : Request). carryOut soundStep t (plan soundStep t p)) e)
+
 -- the three clauses of a contract
 pub clauses : {r : LabelAnswer} {t : List ℕ} {o : Outcome (List ℕ)} → Replied r t o
     → (numberOf (r .answer) ≡ o .answer) × ((r .spent ≡ o .spent) × (t ≡ o .state))
@@ -29,9 +37,10 @@ clauses p = (p .answer, (p .spent, p .table))
 
 pub refused-clauses : {k f : ℕ} {t : List ℕ} {o : Outcome (List ℕ)} (n : ℕ) → o ≡ refuse n t → k ≡ n → f ≡ 0
     → (k ≡ o .answer) × ((f ≡ o .spent) × (t ≡ o .state))
-refused-clauses {t = t} n e a b =
-    let d = e in
-    (a ∙ sym (ap (λ (p : Outcome (List ℕ)). p .answer) d), (b ∙ sym (ap (λ (p : Outcome (List ℕ)). p .spent) d), sym (ap (λ (p : Outcome (List ℕ)). p .state) d)))
+refused-clauses n e a b = (
+  a ∙ sym (ap (λ (p : Outcome (List ℕ)). p .answer) e),
+  (b ∙ sym (ap (λ (p : Outcome (List ℕ)). p .spent) e), sym (ap (λ (p : Outcome (List ℕ)). p .state) e)),
+)
 
 pub clauses-as : {k f : ℕ} {t : List ℕ} {o o′ : Outcome (List ℕ)} → o ≡ o′ → (k ≡ o′ .answer) × ((f ≡ o′ .spent) × (t ≡ o′ .state))
     → (k ≡ o .answer) × ((f ≡ o .spent) × (t ≡ o .state))

@@ -4,13 +4,14 @@ use roles::Refusal;
 use table::layout::ASSIGNED;
 use table::layout::WORDS;
 ghost use mathlib.Core.Path.{_≡_};
+ghost use mathlib.Core.Bool.{true};
 ghost use Prim.Native.Nat.{_-_, _≤_, _<_};
 ghost use lib.ListN.{length};
 ghost use Rattle.table.specs.Reading.{state};
 ghost use Rattle.roles.specs.Request.{ask};
 ghost use Rattle.roles.specs.Guard.{soundStep};
 ghost use Rattle.roles.specs.Answer.{numberOf};
-ghost use Rattle.machine.specs.Machine.{starting, reclearing, inRange};
+ghost use Rattle.machine.specs.Machine.{starting, reclearing, inRange, decode};
 ghost use Rattle.labels.specs.Guard.{single, saysYes, plan, carryOut, labelStep, imageStep};
 ghost use Rattle.labels.specs.Reply.{Replied};
 
@@ -118,6 +119,20 @@ fn in_range(code: u64, a: u64, b: u64, c: u64) -> bool
     roles::within(LIMITS[row], a, b, c)
 }
 
+// The label request of a code from 1 to 5, with its arguments in range.
+fn perform(t: &mut [u64], code: u64, a: u64, b: u64, c: u64) -> LabelAnswer
+    requires { ⌜ (length (now t) ≡ 968) × (1 ≤ code) × (code ≤ 5) × (inRange (ask code a b c) ≡ true) ⌝ }
+    ensures { λ r. ⌜ Replied r (now (t .exit)) (carryOut soundStep (now (t .entry)) (plan soundStep (now (t .entry)) (decode (ask code a b c)))) ⌝ }
+{
+    match code {
+        1 => single(t, 1, a, b, c),
+        2 => single(t, 2, a, b, c),
+        3 => start(t, a, b, c),
+        4 => single(t, 4, a, 0, 0),
+        _ => reclear(t, a, b),
+    }
+}
+
 // A label request on a table that is known to be a sound image: `request` without these two tests.
 pub fn serve(t: &mut [u64], code: u64, a: u64, b: u64, c: u64) -> LabelAnswer
     ensures answer { λ r. ⌜ numberOf (r .answer) ≡ imageStep (now (t .entry)) (ask code a b c) .answer ⌝ }
@@ -136,13 +151,7 @@ pub fn serve(t: &mut [u64], code: u64, a: u64, b: u64, c: u64) -> LabelAnswer
     if !in_range(code, a, b, c) {
         return refused(Refusal::BadArgument);
     }
-    match code {
-        1 => single(t, 1, a, b, c),
-        2 => single(t, 2, a, b, c),
-        3 => start(t, a, b, c),
-        4 => single(t, 4, a, 0, 0),
-        _ => reclear(t, a, b),
-    }
+    perform(t, code, a, b, c)
 }
 
 // A label request on a lent table of any length and contents.

@@ -47,13 +47,11 @@ module _ (S : State) (f : Sound S) (q : Ask) where
 
   stays : (n : ℕ) → roleStep t q ≡ refuse n t → move S q ≡ stay n S → Moved S q (move S q)
   unfolding stay
-  stays n e v =
-      let d = e in
-      record {
-        answer = ap (λ (o : Outcome (List ℕ)). o .answer) d ∙ sym (ap (λ (w : Move). w .answer) v);
-        table = ap (λ (o : Outcome (List ℕ)). o .state) d ∙ sym (ap (λ (w : Move). encode (w .next)) v);
-        is-sound = subst (λ (w : Move). Sound (w .next)) (sym v) f;
-      }
+  stays n e v = record {
+    answer = ap (λ (o : Outcome (List ℕ)). o .answer) e ∙ sym (ap (λ (w : Move). w .answer) v);
+    table = ap (λ (o : Outcome (List ℕ)). o .state) e ∙ sym (ap (λ (w : Move). encode (w .next)) v);
+    is-sound = subst (λ (w : Move). Sound (w .next)) (sym v) f;
+  }
 
   on : roleStep t q ≡ checked allowed t q
   on = role-step-sound t q (sound-table t (encode-sound S f)) (sound-state t (encode-sound S f))

@@ -5,8 +5,6 @@ use Rattle.bits.proofs.Truth.{confirmed, refuted}
 use Rattle.table.proofs.Table.{is-table, not-table}
 use Rattle.roles.specs.Request.{ask}
 use Rattle.roles.specs.Guard.{soundStep}
-use Rattle.machine.proofs.Steps.{opening-code, closing-code, starting-code, ending-code, reclearing-code, start-level, reclear-user, fifth}
-use Rattle.labels.specs.Guard.{plan}
 use Rattle.labels.proofs.Refusing.{is-code, code-low, code-high, translated-code, translated-argument, image-step-short, image-step-table, image-step-plan}
 use Rattle.labels.proofs.Replying.{clauses, replied-as, refused-clauses}
 use Rattle.labels.proofs.serve.Statement.{statement}
@@ -48,95 +46,22 @@ returns-4 c =
     ∙ translated-argument soundStep (a .t .now) q (is-code q (high .before .if2 .left) (high .if3 .left)) (refuted (told .in-range .ensures) (c .before .if4 .taken)))
     (c .refused4 .ensures .0) (c .refused4 .ensures .1)
 
-start-requires : tie.Need-start-requires
-start-requires c κs =
-    let told = c .before .before in
+perform-requires : tie.Need-perform-requires
+perform-requires c κs =
+    let told = c .before in
     let high = told .before .before in
-    let a = high .before .before .before .before .args in
-    start-level (a .code) (a .a) (a .b) (a .c) (high .before .if2 .left) (high .if3 .left) (confirmed (told .before .in-range .ensures) (told .if4 .left))
-    (c .before .match .keys3)
-
-reclear-requires : tie.Need-reclear-requires
-reclear-requires c κs =
-    let told = c .before .before in
-    let high = told .before .before in
-    let whole = high .before .before in
-    let a = whole .before .before .args in
-    let n = c .before .match .rest in
-    let l = high .before .if2 .left in
-    let h = high .if3 .left in (
-      whole .if1 .left,
-      reclear-user (a .code) (a .a) (a .b) (a .c) l h (confirmed (told .before .in-range .ensures) (told .if4 .left))
-          (fifth l h (n .0 .0 .0 .1) (n .0 .0 .1) (n .0 .1) (n .1)),
-    )
+    (high .before .before .if1 .left, high .before .if2 .left, high .if3 .left, confirmed (told .before .in-range .ensures) (told .if4 .left))
 
 returns-5 : tie.Need-returns-5
-unfolding plan
 returns-5 c =
-    let arm = c .before .before .before .before in
-    let told = arm .before in
+    let told = c .before .before .before .before in
     let high = told .before .before in
     let whole = high .before .before in
     let a = whole .before .before .args in
     clauses (replied-as
     (image-step-plan (a .t .now) (a .code) (a .a) (a .b) (a .c) (whole .if1 .left) (high .before .if2 .left) (high .if3 .left)
-    (confirmed (told .before .in-range .ensures) (told .if4 .left)) (opening-code (a .a) (a .b) (a .c) (arm .match .keys1)))
-    (c .before .before .single .ensures))
-
-returns-6 : tie.Need-returns-6
-unfolding plan
-returns-6 c =
-    let arm = c .before .before .before .before in
-    let told = arm .before in
-    let high = told .before .before in
-    let whole = high .before .before in
-    let a = whole .before .before .args in
-    clauses (replied-as
-    (image-step-plan (a .t .now) (a .code) (a .a) (a .b) (a .c) (whole .if1 .left) (high .before .if2 .left) (high .if3 .left)
-    (confirmed (told .before .in-range .ensures) (told .if4 .left)) (closing-code (a .a) (a .b) (a .c) (arm .match .keys2)))
-    (c .before .before .single2 .ensures))
-
-returns-7 : tie.Need-returns-7
-unfolding plan
-returns-7 c =
-    let arm = c .before .before .before .before in
-    let told = arm .before in
-    let high = told .before .before in
-    let whole = high .before .before in
-    let a = whole .before .before .args in
-    clauses (replied-as
-    (image-step-plan (a .t .now) (a .code) (a .a) (a .b) (a .c) (whole .if1 .left) (high .before .if2 .left) (high .if3 .left)
-    (confirmed (told .before .in-range .ensures) (told .if4 .left)) (starting-code (a .a) (a .b) (a .c) (arm .match .keys3)))
-    (c .before .before .start .ensures))
-
-returns-8 : tie.Need-returns-8
-unfolding plan
-returns-8 c =
-    let arm = c .before .before .before .before in
-    let told = arm .before in
-    let high = told .before .before in
-    let whole = high .before .before in
-    let a = whole .before .before .args in
-    clauses (replied-as
-    (image-step-plan (a .t .now) (a .code) (a .a) (a .b) (a .c) (whole .if1 .left) (high .before .if2 .left) (high .if3 .left)
-    (confirmed (told .before .in-range .ensures) (told .if4 .left)) (ending-code (a .a) (a .b) (a .c) (arm .match .keys4)))
-    (c .before .before .single3 .ensures))
-
-returns-9 : tie.Need-returns-9
-unfolding plan
-returns-9 c =
-    let arm = c .before .before .before .before in
-    let told = arm .before in
-    let high = told .before .before in
-    let whole = high .before .before in
-    let a = whole .before .before .args in
-    let n = arm .match .rest in
-    let l = high .before .if2 .left in
-    let h = high .if3 .left in
-    clauses (replied-as
-    (image-step-plan (a .t .now) (a .code) (a .a) (a .b) (a .c) (whole .if1 .left) l h
-    (confirmed (told .before .in-range .ensures) (told .if4 .left)) (reclearing-code (a .a) (a .b) (a .c) (fifth l h (n .0 .0 .0 .1) (n .0 .0 .1) (n .0 .1) (n .1))))
-    (c .before .before .reclear .ensures))
+    (confirmed (told .before .in-range .ensures) (told .if4 .left)))
+    (c .before .before .perform .ensures))
 
 pub serve-spec : {M : Type 1} → statement M
 serve-spec =
@@ -151,18 +76,6 @@ serve-spec =
     (λ c κs. search needs)
     (λ c κs. search needs)
     returns-4
-    (λ c κs. search needs)
-    (λ c κs. search needs)
-    start-requires
-    (λ c κs. search needs)
-    reclear-requires
+    perform-requires
     (λ c. search needs)
-    returns-5
-    (λ c. search needs)
-    returns-6
-    (λ c. search needs)
-    returns-7
-    (λ c. search needs)
-    returns-8
-    (λ c. search needs)
-    returns-9)
+    returns-5)
