@@ -7,7 +7,7 @@ use native.Mathlib.Nat.{le-of-suc-le-suc, not-suc-le-zero, eq-or-lt-of-le, lt-of
 use native.Mathlib.Numerals.{add-one}
 use native.Mathlib.Omega.{arith}
 use lib.Dec.{T, leb, lit≤}
-use Rattle.bits.specs.Words.{_and_, _or_, all}
+use Rattle.bits.specs.Words.{_and_, all}
 use Rattle.bits.specs.Sets.{any, least, Any}
 use Rattle.bits.proofs.Truth.{clash, by-truth, is-false, and-intro, and-left, and-right, or-left, or-right, or-elim, if-true, if-false}
 
@@ -53,9 +53,6 @@ module _ (f : ℕ → Bool) where
   unfolding all
   all-more n p q = rw add-one (and-intro p q)
 
-  pub all-done : (n i : ℕ) → all i f ≡ true → i ≡ n → all n f ≡ true
-  all-done n i p e = sym (ap (λ (k : ℕ). all k f) e) ∙ p
-
   pub any-elim : (n : ℕ) → any n f ≡ true → Any n f
   unfolding any
   any-elim zero e = clash e refl
@@ -69,9 +66,6 @@ module _ (f : ℕ → Bool) where
   any-intro zero i h e = absurd (not-suc-le-zero h)
   any-intro (suc n) i h e =
       below-suc h (λ q. or-right (any n f) (sym (ap f q) ∙ e)) (λ l. or-left (f n) (any-intro n i l e))
-
-  pub any-fails : (n : ℕ) → any n f ≡ false → (i : ℕ) → i < n → f i ≡ false
-  any-fails n e i h = is-false (λ p. clash (any-intro n i h p) e)
 
   -- the least is the one below which there is none
   pub least-is : (n i : ℕ) → i < n → f i ≡ true → ((j : ℕ) → j < i → f j ≡ false) → least n f ≡ i
@@ -90,11 +84,6 @@ module _ {f g : ℕ → Bool} where
   unfolding all
   all-cong zero k = refl
   all-cong (suc n) k = ap₂ (λ (a b : Bool). a and b) (all-cong n (λ i h. k i (omega arith))) (k n (omega arith))
-
-  pub any-cong : (n : ℕ) → ((i : ℕ) → i < n → f i ≡ g i) → any n f ≡ any n g
-  unfolding any
-  any-cong zero k = refl
-  any-cong (suc n) k = ap₂ (λ (a b : Bool). a or b) (any-cong n (λ i h. k i (omega arith))) (k n (omega arith))
 
 -- below m, and so below n where that is no less
 pub widen : {i m : ℕ} (n : ℕ) → i < m → T (leb m n) → i < n

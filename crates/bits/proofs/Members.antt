@@ -28,9 +28,6 @@ module _ (w : ℕ) (f : ℕ → Bool) where
       (λ p. absurd (not-empty w i m (eqb-true w 0 p)))
       (λ p. implies-elim (has w i) (f i) (all-elim _ 64 p i h) m)
 
-  pub each-fails : (i : ℕ) → i < 64 → has w i ≡ true → f i ≡ false → each w f ≡ false
-  each-fails i h m e = is-false (λ p. clash (each-elim p i h m) e)
-
   pub some-intro : (i : ℕ) → i < 64 → has w i ≡ true → f i ≡ true → some w f ≡ true
   unfolding some
   some-intro i h m e =
@@ -46,9 +43,6 @@ module _ (w : ℕ) (f : ℕ → Bool) where
         member = and-left (has w (a .at)) _ (a .holds);
         holds = and-right (has w (a .at)) _ (a .holds);
       }
-
-  pub some-fails : some w f ≡ false → (i : ℕ) → i < 64 → has w i ≡ true → f i ≡ false
-  some-fails e i h m = is-false (λ p. clash (some-intro i h m p) e)
 
 -- where it does not hold of each member, there is one of which it does not hold
 pub each-counter : (w : ℕ) (f : ℕ → Bool) → each w f ≡ false → Some w (λ i. not (f i))

@@ -106,9 +106,6 @@ module _ (w : ℕ) (l : w < 2 ^ 64) (n : w ≡ 0 → ⊥) where
       (λ e. or-elim (has high j) _ (sym (has-parts j h) ∙ without-old w (lowest w) j h e) (λ p. p)
       (λ p. absurd (without-other w (lowest w) j h e (eqb-true j zeros p ∙ lowest-is)))))
 
-  pub rest-lt : rest w < w
-  rest-lt = let p = parts .is in let q = pow-pos zeros in let r = high-is in omega arith
-
   -- as the code takes the lowest member off
   pub rest-is : bitAnd w (w - 1) ≡ rest w
   rest-is =

@@ -133,12 +133,6 @@ module _ (m : Machine) (g : Ranged m) (f : Safe m) where
       is-more : A1 .assigned u ≡ clearedRoles k with c
       is-more = upd-same (S .assigned) u more ∙ ap (λ (w : ℕ). w with c) (assigned-is m u)
 
-      abbrev A2 : State
-      A2 = withAssigned A1 u (A1 .assigned u without k)
-
-      abbrev A3 : State
-      A3 = withAssigned A1 u (A1 .assigned u without c)
-
       new-roles : A1 .assigned u without k ≡ clearedRoles c
       new-roles = ap (λ (w : ℕ). w without k) is-more ∙ roles-changed k c hk hc n
 

@@ -105,9 +105,6 @@ made-table d m p =
 abbrev Keeps : List ℕ → Outcome (List ℕ) → Type 0
 Keeps l o = (shows (o .answer) ≡ true) × (length (o .state) ≡ length l)
 
-keeps-as : {o o′ : Outcome (List ℕ)} (l : List ℕ) → o ≡ o′ → Keeps l o′ → Keeps l o
-keeps-as l e h = (shows-as e (h .0), ap (λ (p : Outcome (List ℕ)). length (p .state)) e ∙ h .1)
-
 keeps-choice : (b : Bool) (l : List ℕ) (i v : ℕ) → Keeps l (if_then_else_ (not b) (refuse 19 l) (accept (set l i v)))
 unfolding if_then_else_ shows _or_
 keeps-choice true l i v = (refl, length-set l i v)

@@ -7,8 +7,8 @@ use native.Mathlib.Nat.{add-zero, add-suc, suc-add}
 use native.Mathlib.Numerals.{sub-one}
 use native.Mathlib.Omega.{arith}
 use lib.Dec.{leb}
-use lib.ListN.{length, take, drop, set, length-append}
-use lib.Seq.{sets, sets-eq, take-at, length-take-le}
+use lib.ListN.{length, set, length-append}
+use lib.Seq.{sets}
 use borrow.Author.Tests.{leb-true, le-leb, lt-leb}
 use Rattle.bits.specs.Words.{if_then_else_}
 use Rattle.bits.proofs.Truth.{if-true, if-false}
@@ -69,14 +69,6 @@ length-row n a s =
     let j = length-column a 9 in
     let k = length-column s 10 in
     rw (length-append (column n 9 ++ column a 9) (column s 10), length-append (column n 9) (column a 9)) (omega arith)
-
--- what stands before the next place is what stood before the first, and the bytes
-pub wrote-take : (out : List ℕ) (at : ℕ) (bytes result : List ℕ) (next : ℕ) → Wrote out at bytes result next
-    → at + length bytes ≤ length out → take next result ≡ take at out ++ bytes
-wrote-take out at bytes result next w h =
-    let front : length (take at out) ≡ at = length-take-le at out (omega arith) in
-    let whole : length (take at out ++ bytes) ≡ next = length-append (take at out) bytes ∙ ap (λ (k : ℕ). k + length bytes) front ∙ sym (w .next-is) in
-    ap (take next) (w .result-is ∙ sets-eq bytes out at h) ∙ take-at (take at out ++ bytes) (drop (at + length bytes) out) next whole
 
 -- ---- a row, where there is room for one
 

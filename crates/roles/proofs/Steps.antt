@@ -18,12 +18,11 @@ use Rattle.sound.specs.Answers.{isSound}
 use Rattle.sound.proofs.Answers.{sound-state, sound-table, shown-sound}
 use Rattle.roles.specs.Request.{Ask, Outcome, refuse, decide}
 use Rattle.roles.specs.Roles.{Request, opens, closes, starts, ends, activates, drops, assigns, deassigns, grants, revokes, isCode, inRange, decode, known, allowed, changed}
-use Rattle.roles.specs.Guard.{roleStep, soundStep}
+use Rattle.roles.specs.Guard.{roleStep}
 use Rattle.roles.specs.Served.{Ranged}
 use Rattle.roles.proofs.Serving.{decide-yes, decide-no, served-known, served-unknown}
 use Rattle.roles.proofs.Codes.{is-code-elim, ranged}
 use Rattle.roles.proofs.Guarding.{checked-code, checked-argument, checked-served, role-step-short, role-step-unsound, role-step-sound}
-use Rattle.roles.proofs.Same.{step-same}
 use Rattle.roles.proofs.Keeping.{changed-sound}
 
 -- ---- on any list
@@ -137,6 +136,3 @@ module _ (S : State) (f : Sound S) (q : Ask) (c : isCode q ≡ true) (r : inRang
       })
       ∙ ap₂ (λ (b : Bool) (t : List ℕ). decide b 1 1 t (encode S))
       (allowed-agree a (agree-sound (agree-sym a) f) (decode q) reach) (encode-cong (changed-agree a (decode q) reach))
-
-  pub sound-step-encode : soundStep (encode S) q ≡ roleStep (encode S) q
-  sound-step-encode = step-same (encode S) q (sound-table (encode S) table-sound) (sound-state (encode S) table-sound)

@@ -104,17 +104,3 @@ module _ {f : ℕ → ℕ} {at : ℕ} {old : List ℕ} where
       (λ d. let e = ltb-true j i d in k .written j c e ∙ sym (q j c e))
       (λ d. let e = ltb-false j i d in k .after j e ∙ sym (r j e m)))
       ∙ sym (getD-tabulate (length old) g 0 j m))
-
--- a place that is left as it was, since that is what belongs there
-pub write-skip : {f : ℕ → ℕ} {at : ℕ} {old out : List ℕ} {i : ℕ} → Writing f at old out i → getD old i 0 ≡ f i → Writing f at old out (i + 1)
-write-skip {f} {at} {old} {out} {i} k e =
-    let l = k .from in
-    record {
-      from = omega arith;
-      long = k .long;
-      before = k .before;
-      written = λ j m n. below-suc (rw add-one at n)
-          (λ q. k .after j (omega arith) ∙ ap (λ (x : ℕ). getD old x 0) q ∙ e ∙ sym (ap f q))
-          (λ p. k .written j m p);
-      after = λ j m. k .after j (omega arith);
-    }

@@ -37,10 +37,6 @@ not-full : (room number : ℕ) → rowRoom ≤ room → (number ≡ 2 ^ 64 - 1 �
 unfolding full
 not-full room number h n = false-or _ (le-ltb room rowRoom h) ∙ ne-eqb number (2 ^ 64 - 1) n
 
--- a stop with another count of bytes
-recount : (s : Stop) {k j : ℕ} (w : List ℕ) → k ≡ j → ahead k w s ≡ ahead j w s
-recount s w e = ap (λ (n : ℕ). ahead n w s) e
-
 module _ (G : Guards) (room : ℕ) where
   serving-full : (p : Standing) (l : List ℕ) → full room (p .number) ≡ true → serving G room true p l ≡ halt p
   unfolding serving _and_
