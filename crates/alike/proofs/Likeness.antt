@@ -13,8 +13,8 @@ use Rattle.bits.proofs.Word.{has-pack, pack-cong}
 use Rattle.table.specs.State.{State}
 use Rattle.table.specs.Authority.{effective}
 use Rattle.table.specs.Sound.{sound}
-use Rattle.table.specs.Reading.{tableLength, state}
-use Rattle.table.specs.Table.{isTable}
+use Rattle.table.specs.Reading.{state}
+use Rattle.table.specs.Table.{tableLength, isTable}
 use Rattle.table.specs.Answers.{effectivePermissions}
 use Rattle.table.proofs.Table.{in-table}
 use Rattle.table.proofs.Tabulate.{getD-tabulate}

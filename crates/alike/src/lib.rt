@@ -7,12 +7,13 @@ ghost use mathlib.Core.Path.{_≡_};
 ghost use Prim.Native.Nat.{_<_};
 ghost use lib.ListN.{length};
 ghost use Rattle.table.specs.Reading.{state};
+ghost use Rattle.table.specs.Table.{tableLength};
 ghost use Rattle.roles.specs.Answer.{numberOf};
 ghost use Rattle.alike.specs.Likeness.{sameSession, likeness};
 
 // Whether session s holds the same in both tables, and the same is effective for it.
 fn same_session(first: &[u64], second: &[u64], s: usize) -> bool
-    requires { ⌜ (length (now first) ≡ 968) × ((length (now second) ≡ 968) × (s < 32)) ⌝ }
+    requires { ⌜ (length (now first) ≡ tableLength) × ((length (now second) ≡ tableLength) × (s < 32)) ⌝ }
     ensures { λ b. ⌜ b ≡ sameSession (state (now (first .entry))) (state (now (second .entry))) s ⌝ }
 {
     let here = table::effective_permissions(first, s);

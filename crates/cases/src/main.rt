@@ -5,6 +5,7 @@ ghost use Prim.Native.Nat.{_≤_};
 ghost use lib.ListN.{length};
 use libc::STDOUT_FILENO;
 use machine::Label;
+use table::layout::WORDS;
 
 // Role requests, a code and three arguments each: cases A to H, and the sessions of J.
 const BENCH: [u64; 84] = [
@@ -388,7 +389,7 @@ fn compare(number: u64, a: u64, b: u64) -> bool {
 
 // Role 5 above 3, 3 above 1; only (0, 9) a permission.
 fn bench_cases() -> bool {
-    let mut table = [0u64; 968];
+    let mut table = [0u64; WORDS];
     let mut direct = [0u64; 64];
     let mut permissions = [0u64; 8];
     direct[5] = 8;
@@ -403,7 +404,7 @@ fn bench_cases() -> bool {
 
 // Role 1 above 2, 3 above 4; (0, 1), (0, 2), (1, 1) and (1, 2) permissions.
 fn source_cases() -> bool {
-    let mut table = [0u64; 968];
+    let mut table = [0u64; WORDS];
     let mut direct = [0u64; 64];
     let mut permissions = [0u64; 8];
     direct[1] = 4;
@@ -419,7 +420,7 @@ fn source_cases() -> bool {
 
 // User 4 with clearance 17, objects 7 and 8 with labels 9 and 25.
 fn listing_cases() -> bool {
-    let mut table = [0u64; 968];
+    let mut table = [0u64; WORDS];
     let mut clearances = [0u8; 64];
     let mut labels = [0u8; 64];
     clearances[4] = 17;
@@ -434,7 +435,7 @@ fn listing_cases() -> bool {
 
 // User 0 with clearance 9, objects 1 and 2 with labels 9 and 10.
 fn confused_cases() -> bool {
-    let mut table = [0u64; 968];
+    let mut table = [0u64; WORDS];
     let mut clearances = [0u8; 64];
     let mut labels = [0u8; 64];
     clearances[0] = 9;
@@ -481,9 +482,9 @@ fn dominance_cases() -> bool {
 
 // Tables of 967 and 969 words, and label 32 in a set-up.
 fn refused_cases() -> bool {
-    let mut short = [0u64; 967];
-    let mut long = [0u64; 969];
-    let mut table = [0u64; 968];
+    let mut short = [0u64; WORDS - 1];
+    let mut long = [0u64; WORDS + 1];
+    let mut table = [0u64; WORDS];
     let clearances = [32u8; 64];
     let labels = [0u8; 64];
     if !show(

@@ -2,6 +2,7 @@
 use libc::STDERR_FILENO;
 use libc::STDIN_FILENO;
 use libc::STDOUT_FILENO;
+use table::layout::WORDS;
 use transcript::Progress;
 ghost use Rattle.transcript.specs.Stream.{standing, started};
 ghost use Rattle.guard.specs.Block.{Behind, Led};
@@ -127,7 +128,7 @@ fn main() {
         complain();
         return;
     }
-    let mut table = [0u64; 968];
+    let mut table = [0u64; WORDS];
     let mut juniors = [0u64; 64];
     let mut permissions = [0u64; 8];
     let mut clearances = [0u8; 64];

@@ -9,8 +9,8 @@ use Rattle.bits.specs.Words.{has, _with_}
 use Rattle.bits.specs.Sets.{lowest}
 use Rattle.bits.proofs.Truth.{is-false, and-right, true-and}
 use Rattle.bits.proofs.Walk.{lowest-least}
-use Rattle.table.specs.Reading.{tableLength, state}
-use Rattle.table.specs.Table.{isTable}
+use Rattle.table.specs.Reading.{state}
+use Rattle.table.specs.Table.{tableLength, isTable}
 use Rattle.table.proofs.Table.{is-table}
 use Rattle.machine.specs.Machine.{Seat, idle, at}
 use Rattle.machine.proofs.Seats.{idle-at, same-user, same-level}

@@ -9,8 +9,7 @@ use Rattle.bits.specs.Words.{_with_}
 use Rattle.bits.proofs.Truth.{and-false}
 use Rattle.bits.proofs.Word.{pack-none}
 use Rattle.table.specs.Answers.{overlay, clearedFrom}
-use Rattle.table.specs.Reading.{tableLength}
-use Rattle.table.specs.Table.{tabulate}
+use Rattle.table.specs.Table.{tableLength, tabulate}
 use Rattle.table.proofs.Answers.{length-cleared, cleared-before, cleared-after, length-overlay, overlay-at, overlay-before}
 use Rattle.table.proofs.Encode as encode
 use Rattle.table.proofs.Tabulate.{length-tabulate, getD-tabulate}

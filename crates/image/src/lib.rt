@@ -12,7 +12,7 @@ ghost use Prim.Native.Nat.{_+_, _≤_};
 ghost use lib.ListN.{length, getD};
 ghost use Rattle.bits.specs.Words.{_with_};
 ghost use Rattle.table.specs.Reading.{state};
-ghost use Rattle.table.specs.Table.{tabulate};
+ghost use Rattle.table.specs.Table.{tableLength, tabulate};
 ghost use Rattle.roles.specs.Answer.{numberOf};
 ghost use Rattle.image.specs.Image.{image, clearedRoles, seatRoles};
 ghost use Rattle.image.specs.Test.{seatOf, seniorityFits, permissionsFit, usersFit, objectsFit, levelsFit, IsLabel, showsImage};
@@ -92,7 +92,7 @@ const PERMITTED_OBJECTS: [u64; 8] = [0xffffffffffffffff, 0xffffffffffffffff, 0, 
 
 // Whether the seniority of the roles is that of the labels.
 fn seniority_fits(t: &[u64]) -> bool
-    requires { ⌜ length (now t) ≡ 968 ⌝ }
+    requires { ⌜ length (now t) ≡ tableLength ⌝ }
     ensures { λ b. ⌜ b ≡ seniorityFits (state (now (t .entry))) ⌝ }
 {
     let rows = JUNIORS;
@@ -106,7 +106,7 @@ fn seniority_fits(t: &[u64]) -> bool
 
 // Whether the permissions are those of modes 0 and 1.
 fn permissions_fit(t: &[u64]) -> bool
-    requires { ⌜ length (now t) ≡ 968 ⌝ }
+    requires { ⌜ length (now t) ≡ tableLength ⌝ }
     ensures { λ b. ⌜ b ≡ permissionsFit (state (now (t .entry))) ⌝ }
 {
     for x in 0..8 {
@@ -133,7 +133,7 @@ fn cleared_roles(c: usize) -> u64
 
 // Whether every user has exactly a clearance role and role 32.
 fn users_fit(t: &[u64]) -> bool
-    requires { ⌜ length (now t) ≡ 968 ⌝ }
+    requires { ⌜ length (now t) ≡ tableLength ⌝ }
     ensures { λ b. ⌜ b ≡ usersFit (state (now (t .entry))) ⌝ }
 {
     for u in 0..64 {
@@ -147,7 +147,7 @@ fn users_fit(t: &[u64]) -> bool
 
 // Whether every object is granted to the read role and to the write role of one label alone.
 fn objects_fit(t: &[u64]) -> bool
-    requires { ⌜ length (now t) ≡ 968 ⌝ }
+    requires { ⌜ length (now t) ≡ tableLength ⌝ }
     ensures { λ b. ⌜ b ≡ objectsFit (state (now (t .entry))) ⌝ }
 {
     for o in 0..64 {
@@ -176,7 +176,7 @@ fn seat_roles(owner: u64, roles: u64) -> u64
 
 // Whether every session has exactly the two roles of its level, and an idle one none.
 fn levels_fit(t: &[u64]) -> bool
-    requires { ⌜ length (now t) ≡ 968 ⌝ }
+    requires { ⌜ length (now t) ≡ tableLength ⌝ }
     ensures { λ b. ⌜ b ≡ levelsFit (state (now (t .entry))) ⌝ }
 {
     for s in 0..32 {
@@ -249,7 +249,7 @@ fn granted_words(labels: &[u8], first: usize) -> [u64; 64]
 
 // Writes the image of the machine with these clearances and labels, all sessions idle.
 fn write_image(t: &mut [u64], clearances: &[u8], labels: &[u8])
-    requires { ⌜ (length (now t) ≡ 968) × (length (now clearances) ≡ 64) × (length (now labels) ≡ 64) ⌝ }
+    requires { ⌜ (length (now t) ≡ tableLength) × (length (now clearances) ≡ 64) × (length (now labels) ≡ 64) ⌝ }
     ensures { λ r. ⌜ now (t .exit) ≡ image (begin (now (clearances .entry)) (now (labels .entry))) ⌝ }
 {
     table::overlay(t, 0, &JUNIORS);

@@ -7,8 +7,8 @@ use lib.ListN.{length}
 use borrow.Author.Tests.{le-leb, lt-leb}
 use Rattle.bits.proofs.Truth.{past, stopped, and-intro, false-and, and-false}
 use Rattle.table.specs.Sound.{sound}
-use Rattle.table.specs.Reading.{tableLength, state}
-use Rattle.table.specs.Table.{isTable}
+use Rattle.table.specs.Reading.{state}
+use Rattle.table.specs.Table.{tableLength, isTable}
 use Rattle.table.proofs.Table.{is-table}
 use Rattle.roles.specs.Request.{Ask, ask, refuse}
 use Rattle.roles.specs.Guard.{roleStep, soundStep}

@@ -8,6 +8,7 @@ ghost use mathlib.Core.Bool.{true};
 ghost use Prim.Native.Nat.{_-_, _≤_, _<_};
 ghost use lib.ListN.{length};
 ghost use Rattle.table.specs.Reading.{state};
+ghost use Rattle.table.specs.Table.{tableLength};
 ghost use Rattle.roles.specs.Request.{ask};
 ghost use Rattle.roles.specs.Guard.{soundStep};
 ghost use Rattle.roles.specs.Answer.{numberOf};
@@ -77,7 +78,7 @@ fn start(t: &mut [u64], s: u64, u: u64, y: u64) -> LabelAnswer
 
 // User u gets the clearance c: the new role before the old one is taken, and taken back where a session needs the old one.
 fn reclear(t: &mut [u64], u: u64, c: u64) -> LabelAnswer
-    requires { ⌜ (length (now t) ≡ 968) × (u < 64) ⌝ }
+    requires { ⌜ (length (now t) ≡ tableLength) × (u < 64) ⌝ }
     ensures { λ r. ⌜ Replied r (now (t .exit)) (carryOut soundStep (now (t .entry)) (plan soundStep (now (t .entry)) (reclearing u c))) ⌝ }
 {
     let old = image::label_of(t[ASSIGNED + u as usize]) as u64;
@@ -121,7 +122,7 @@ fn in_range(code: u64, a: u64, b: u64, c: u64) -> bool
 
 // The label request of a code from 1 to 5, with its arguments in range.
 fn perform(t: &mut [u64], code: u64, a: u64, b: u64, c: u64) -> LabelAnswer
-    requires { ⌜ (length (now t) ≡ 968) × (1 ≤ code) × (code ≤ 5) × (inRange (ask code a b c) ≡ true) ⌝ }
+    requires { ⌜ (length (now t) ≡ tableLength) × (1 ≤ code) × (code ≤ 5) × (inRange (ask code a b c) ≡ true) ⌝ }
     ensures { λ r. ⌜ Replied r (now (t .exit)) (carryOut soundStep (now (t .entry)) (plan soundStep (now (t .entry)) (decode (ask code a b c)))) ⌝ }
 {
     match code {

@@ -23,8 +23,8 @@ use Rattle.image.proofs.Beginning.{passed, accepted, begin-ranged, set-up-sound
 use Rattle.labels.specs.Guard.{labelStep, imageStep}
 use Rattle.labels.proofs.Refusing.{is-code}
 use Rattle.labels.proofs.Claims.{kept-sound}
-use Rattle.demand.proofs.Deciding.{pictured, picture-decide, picture-refuse}
-use Rattle.demand.proofs.Simulation.{Good, one-step, one-step-served, next-good}
+use Rattle.simulation.proofs.Deciding.{pictured, picture-decide, picture-refuse}
+use Rattle.simulation.proofs.Simulation.{Good, one-step, one-step-served, next-good}
 
 -- ---- the set-up
 

@@ -7,8 +7,8 @@ use lib.ListN.{length}
 use Rattle.bits.proofs.Truth.{if-true, if-false, past, stopped}
 use Rattle.table.specs.State.{State}
 use Rattle.table.specs.Sound.{sound}
-use Rattle.table.specs.Reading.{tableLength, state}
-use Rattle.table.specs.Table.{isTable}
+use Rattle.table.specs.Reading.{state}
+use Rattle.table.specs.Table.{tableLength, isTable}
 use Rattle.table.proofs.Table.{is-table}
 use Rattle.roles.specs.Request.{Ask, ask, Outcome, refuse}
 use Rattle.roles.specs.Roles.{Request, isCode, inRange, decode, known, allowed}

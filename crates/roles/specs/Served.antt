@@ -3,8 +3,8 @@ use Rattle.bits.specs.Words.{ℕ, _<_, _≡_, Bool, true, List, ltb, length, if
 use Rattle.table.specs.State.{State}
 use Rattle.table.specs.Authority.{permission}
 use Rattle.table.specs.Changes.{withHolds}
-use Rattle.table.specs.Reading.{tableLength, state}
-use Rattle.table.specs.Table.{encode}
+use Rattle.table.specs.Reading.{state}
+use Rattle.table.specs.Table.{tableLength, encode}
 use Rattle.roles.specs.Roles.{Request, opens, closes, starts, ends, activates, drops, assigns, deassigns, grants, revokes, changed}
 use Rattle.roles.specs.Guard.{allowedSound}
 

@@ -10,6 +10,7 @@ ghost use mathlib.Core.Path.{_≡_};
 ghost use Prim.Native.Nat.{_-_, _≤_, _<_};
 ghost use lib.ListN.{length};
 ghost use Rattle.table.specs.Reading.{state};
+ghost use Rattle.table.specs.Table.{tableLength};
 ghost use Rattle.roles.specs.Request;
 ghost use Rattle.roles.specs.Request.{ask};
 ghost use Rattle.roles.specs.Roles.{opens, closes, starts, ends, activates, drops, assigns, deassigns, grants, revokes, inRange, decode};
@@ -102,7 +103,7 @@ fn start(t: &mut [u64], s: usize, u: usize) -> bool
 
 // Session s holds nothing open.
 fn close_all(t: &mut [u64], s: usize)
-    requires { ⌜ (length (now t) ≡ 968) × (s < 32) ⌝ }
+    requires { ⌜ (length (now t) ≡ tableLength) × (s < 32) ⌝ }
     ensures { λ r. ⌜ now (t .exit) ≡ closedAll (now (t .entry)) s ⌝ }
 {
     for x in 0..8 {
@@ -239,7 +240,7 @@ fn in_range(code: u64, a: u64, b: u64, c: u64) -> bool
 
 // Whether the pair that a grant or revoke names is a permission; the other requests name none.
 fn is_known(t: &[u64], code: u64, x: usize, o: usize) -> bool
-    requires { ⌜ (length (now t) ≡ 968) × (9 ≤ code → x < 8) ⌝ }
+    requires { ⌜ (length (now t) ≡ tableLength) × (9 ≤ code → x < 8) ⌝ }
     ensures { λ r. ⌜ r ≡ pairKnown (state (now (t .entry))) code x o ⌝ }
 {
     if code < 9 {

@@ -11,8 +11,8 @@ use Rattle.bits.proofs.Below.{all-elim}
 use Rattle.bits.proofs.Word.{has-zero}
 use Rattle.bits.proofs.Members.{each-elim}
 use Rattle.table.specs.Sound.{Sound}
-use Rattle.table.specs.Reading.{tableLength, permittedAt, assignedAt, grantedAt, ownerAt, activeAt, holdsAt, word}
-use Rattle.table.specs.Table.{encode}
+use Rattle.table.specs.Reading.{permittedAt, assignedAt, grantedAt, ownerAt, activeAt, holdsAt, word}
+use Rattle.table.specs.Table.{tableLength, encode}
 use Rattle.table.specs.Answers.{overlay, clearedFrom}
 use Rattle.table.proofs.Encode.{shown}
 use Rattle.table.proofs.Answers.{length-cleared, cleared-before, cleared-after, length-overlay, overlay-at, overlay-before}

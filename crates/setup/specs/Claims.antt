@@ -1,7 +1,7 @@
 -- What is claimed of the role set-up, each as the answer to a question. proofs/Claims.antt proves them.
 use mathlib.Core.Logic.{_↔_}
 use Rattle.bits.specs.Words.{ℕ, _<_, _≡_, true, List, length, getD, has}
-use Rattle.table.specs.Reading.{tableLength}
+use Rattle.table.specs.Table.{tableLength}
 use Rattle.sound.specs.Answers.{isSound}
 use Rattle.setup.specs.Closure.{closure, Reaches}
 use Rattle.setup.specs.SetUp.{roleSetUp}

@@ -15,8 +15,8 @@ use Rattle.table.specs.State.{State}
 use Rattle.table.specs.Authority.{permission, covers, authorised, effective}
 use Rattle.table.specs.Sound.{sound, Sound}
 use Rattle.table.specs.Answers.{coveredRoles, openable}
-use Rattle.table.specs.Reading.{tableLength, state}
-use Rattle.table.specs.Table.{isTable, encode}
+use Rattle.table.specs.Reading.{state}
+use Rattle.table.specs.Table.{tableLength, isTable, encode}
 use Rattle.table.proofs.Agree.{Agree, authorised-agree, effective-agree, sound-agree}
 use Rattle.table.proofs.Encode.{state-encode, encode-length}
 use Rattle.table.proofs.State.{effective-is}

@@ -10,12 +10,13 @@ ghost use mathlib.Core.Path.{_≡_};
 ghost use Prim.Native.Nat.{_<_};
 ghost use lib.ListN.{length};
 ghost use Rattle.table.specs.Reading.{state};
+ghost use Rattle.table.specs.Table.{tableLength};
 ghost use Rattle.sound.specs.Answers.{isSound, openingsOf, sessionsOf, holdersOf};
 ghost use Rattle.sound.specs.Tests.{juniorFits, roleFits, grantFits, noneGranted, grantsFit, rolesFit, heldFits};
 
 // Whether q, a junior of r and another role, is not senior to r, and its juniors are juniors of r.
 fn junior_fits(t: &[u64], r: usize, q: usize) -> bool
-    requires { ⌜ (length (now t) ≡ 968) × ((r < 64) × (q < 64)) ⌝ }
+    requires { ⌜ (length (now t) ≡ tableLength) × ((r < 64) × (q < 64)) ⌝ }
     ensures { λ b. ⌜ b ≡ juniorFits (state (now (t .entry))) r q ⌝ }
 {
     let below = t[q];
@@ -27,7 +28,7 @@ fn junior_fits(t: &[u64], r: usize, q: usize) -> bool
 
 // Whether role r is its own junior, and its other juniors fit.
 fn role_fits(t: &[u64], r: usize) -> bool
-    requires { ⌜ (length (now t) ≡ 968) × (r < 64) ⌝ }
+    requires { ⌜ (length (now t) ≡ tableLength) × (r < 64) ⌝ }
     ensures { λ b. ⌜ b ≡ roleFits (state (now (t .entry))) r ⌝ }
 {
     let below = t[r];
@@ -47,7 +48,7 @@ fn role_fits(t: &[u64], r: usize) -> bool
 
 // Whether (x, o) is granted to no role or is a permission.
 fn grant_fits(t: &[u64], x: usize, o: usize) -> bool
-    requires { ⌜ (length (now t) ≡ 968) × ((x < 8) × (o < 64)) ⌝ }
+    requires { ⌜ (length (now t) ≡ tableLength) × ((x < 8) × (o < 64)) ⌝ }
     ensures { λ b. ⌜ b ≡ grantFits (state (now (t .entry))) x o ⌝ }
 {
     let granted = t[GRANTED + 64 * x + o];
@@ -59,7 +60,7 @@ fn grant_fits(t: &[u64], x: usize, o: usize) -> bool
 
 // Whether no pair of mode x is granted to a role.
 fn none_granted(t: &[u64], x: usize) -> bool
-    requires { ⌜ (length (now t) ≡ 968) × (x < 8) ⌝ }
+    requires { ⌜ (length (now t) ≡ tableLength) × (x < 8) ⌝ }
     ensures { λ b. ⌜ b ≡ noneGranted (state (now (t .entry))) x ⌝ }
 {
     let mut roles = 0;
@@ -71,7 +72,7 @@ fn none_granted(t: &[u64], x: usize) -> bool
 
 // Whether every pair of mode x is granted to no role or is a permission.
 fn grants_fit(t: &[u64], x: usize) -> bool
-    requires { ⌜ (length (now t) ≡ 968) × (x < 8) ⌝ }
+    requires { ⌜ (length (now t) ≡ tableLength) × (x < 8) ⌝ }
     ensures { λ b. ⌜ b ≡ grantsFit (state (now (t .entry))) x ⌝ }
 {
     if none_granted(t, x) {
@@ -87,7 +88,7 @@ fn grants_fit(t: &[u64], x: usize) -> bool
 
 // Whether the word of session s is at most 64, and its active roles are authorised for it.
 fn roles_fit(t: &[u64], s: usize) -> bool
-    requires { ⌜ (length (now t) ≡ 968) × (s < 32) ⌝ }
+    requires { ⌜ (length (now t) ≡ tableLength) × (s < 32) ⌝ }
     ensures { λ b. ⌜ b ≡ rolesFit (state (now (t .entry))) s ⌝ }
 {
     let owner = t[OWNER + s];
@@ -104,7 +105,7 @@ fn roles_fit(t: &[u64], s: usize) -> bool
 
 // Whether each object that session s holds in mode x is granted in that mode to one of the roles.
 fn held_fits(t: &[u64], roles: u64, s: usize, x: usize) -> bool
-    requires { ⌜ (length (now t) ≡ 968) × ((s < 32) × (x < 8)) ⌝ }
+    requires { ⌜ (length (now t) ≡ tableLength) × ((s < 32) × (x < 8)) ⌝ }
     ensures { λ b. ⌜ b ≡ heldFits (state (now (t .entry))) roles s x ⌝ }
 {
     let mut left = t[HOLDS + 8 * s + x];

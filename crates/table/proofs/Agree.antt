@@ -5,242 +5,130 @@ use mathlib.Core.Path.{_≡_, refl, sym, ap, ap₂, subst, _∙_}
 use mathlib.Core.Bool.{Bool}
 use native.Mathlib.Omega.{arith}
 use lib.Dec.{eqb}
-use borrow.Author.Tests.{eq-eqb, ne-eqb, eqb-true, eqb-false}
-use Rattle.bits.specs.Words.{_and_, if_then_else_, upd, has}
+use borrow.Author.Tests.{eqb-false}
+use Rattle.bits.specs.Words.{_and_, upd, has}
 use Rattle.bits.specs.Sets.{some}
-use Rattle.bits.proofs.Truth.{by-truth, same-truth, if-true, if-false}
+use Rattle.bits.proofs.Truth.{by-truth, same-truth}
 use Rattle.bits.proofs.Members.{some-cong}
 use Rattle.table.specs.State.{State}
 use Rattle.table.specs.Authority.{senior, permission, idle, user, covers, authorised, mayActivate, effective}
-use Rattle.table.specs.Changes.{withAssigned, withGranted, withOwner, withActive, withHolds}
+use Rattle.table.specs.Changes.{setAssigned, setGranted, setOwner, setActive, setHolds, withAssigned, withGranted, withOwner, withActive, withHolds}
 use Rattle.table.specs.Sound.{sound, Sound}
 use Rattle.table.proofs.State.{may-activate-idle, may-activate-busy}
 use Rattle.table.proofs.Sound.{sound-elim, sound-intro}
-
--- ---- one value replaced
-
-module _ {A : Type 0} (f : ℕ → A) (i : ℕ) (v : A) where
-  pub upd-same : upd f i v i ≡ v
-  unfolding upd
-  upd-same = if-true v (f i) (eq-eqb i i refl)
-
-  pub upd-other : (j : ℕ) → (j ≡ i → ⊥) → upd f i v j ≡ f j
-  unfolding upd
-  upd-other j n = if-false v (f j) (ne-eqb j i n)
-
-  -- at i it is v, elsewhere as it was
-  pub by-upd : (P : A → Type 0) (j : ℕ) → (j ≡ i → P v) → ((j ≡ i → ⊥) → P (f j)) → P (upd f i v j)
-  by-upd P j p q =
-      by-truth (eqb j i)
-      (λ b. let e = eqb-true j i b in subst P (sym (ap (upd f i v) e ∙ upd-same)) (p e))
-      (λ b. let n = eqb-false j i b in subst P (sym (upd-other j n)) (q n))
-
-  -- its own value put in
-  pub upd-own : v ≡ f i → (j : ℕ) → upd f i v j ≡ f j
-  upd-own e j = by-upd (λ (x : A). x ≡ f j) j (λ q. e ∙ sym (ap f q)) (λ n. refl)
-
--- one value of a grid replaced
-module _ {A : Type 0} (g : ℕ → ℕ → A) (i p : ℕ) (v : A) where
-  pub grid-same : upd g i (upd (g i) p v) i p ≡ v
-  grid-same = ap (λ (f : ℕ → A). f p) (upd-same g i (upd (g i) p v)) ∙ upd-same (g i) p v
-
-  pub by-grid : {B : Type 0} (j q : ℕ) → (j ≡ i → q ≡ p → B) → (upd g i (upd (g i) p v) j q ≡ g j q → B) → B
-  by-grid j q f k =
-      by-truth (eqb j i)
-      (λ b.
-      let e = eqb-true j i b in
-      by-truth (eqb q p) (λ c. f e (eqb-true q p c))
-      (λ c. k (ap (λ (n : ℕ). upd g i (upd (g i) p v) n q) e
-      ∙ ap (λ (h : ℕ → A). h q) (upd-same g i (upd (g i) p v))
-      ∙ upd-other (g i) p v q (eqb-false q p c)
-      ∙ sym (ap (λ (n : ℕ). g n q) e))))
-      (λ b. k (ap (λ (h : ℕ → A). h q) (upd-other g i (upd (g i) p v) j (eqb-false j i b))))
-
--- values that agree, with values that agree put in
-pub upd-agree : {A : Type 0} (f g : ℕ → A) (i j : ℕ) {v w : A} → v ≡ w → f j ≡ g j → upd f i v j ≡ upd g i w j
-unfolding upd
-upd-agree f g i j e k = ap₂ (if_then_else_ (eqb j i)) e k
-
-row-agree : (f g : ℕ → ℕ → ℕ) (i j x : ℕ) (v w : ℕ → ℕ) → v x ≡ w x → f j x ≡ g j x → upd f i v j x ≡ upd g i w j x
-row-agree f g i j x v w e k =
-    by-upd f i v (λ (h : ℕ → ℕ). h x ≡ upd g i w j x) j
-    (λ q. e ∙ sym (ap (λ (n : ℕ). upd g i w n x) q ∙ ap (λ (h : ℕ → ℕ). h x) (upd-same g i w)))
-    (λ n. k ∙ sym (ap (λ (h : ℕ → ℕ). h x) (upd-other g i w j n)))
-
-grid-agree : (f g : ℕ → ℕ → ℕ) (i p j q : ℕ) {v w : ℕ} → v ≡ w → f j q ≡ g j q → upd f i (upd (f i) p v) j q ≡ upd g i (upd (g i) p w) j q
-grid-agree f g i p j q {v} {w} e k =
-    by-truth (eqb j i)
-    (λ b.
-    let z = eqb-true j i b in
-    row-agree f g i j q (upd (f i) p v) (upd (g i) p w) (upd-agree (f i) (g i) p q e (sym (ap (λ (n : ℕ). f n q) z) ∙ k ∙ ap (λ (n : ℕ). g n q) z)) k)
-    (λ b.
-    let n = eqb-false j i b in
-    ap (λ (h : ℕ → ℕ). h q) (upd-other f i (upd (f i) p v) j n) ∙ k ∙ sym (ap (λ (h : ℕ → ℕ). h q) (upd-other g i (upd (g i) p w) j n)))
-
--- ---- agreement
-
-pub record Agree (S S′ : State) : Type 0 where
-  pub juniors : (r : ℕ) → r < 64 → S .juniors r ≡ S′ .juniors r
-  pub permitted : (x : ℕ) → x < 8 → S .permitted x ≡ S′ .permitted x
-  pub assigned : (u : ℕ) → u < 64 → S .assigned u ≡ S′ .assigned u
-  pub granted : (x o : ℕ) → x < 8 → o < 64 → S .granted x o ≡ S′ .granted x o
-  pub owner : (s : ℕ) → s < 32 → S .owner s ≡ S′ .owner s
-  pub active : (s : ℕ) → s < 32 → S .active s ≡ S′ .active s
-  pub holds : (s x : ℕ) → s < 32 → x < 8 → S .holds s x ≡ S′ .holds s x
+use Rattle.table.proofs.Upd.{row-agree, grid-agree}
+use Rattle.table.proofs.Encode.{encode-cong, agreed}
+pub use Rattle.table.proofs.Upd.{upd-same, upd-other, by-upd, upd-own, grid-same, by-grid, upd-agree}
+pub use Rattle.table.proofs.Encode.{Agree}
 
 pub agree-refl : (S : State) → Agree S S
-agree-refl S = record {
-  juniors = λ r h. refl;
-  permitted = λ x h. refl;
-  assigned = λ u h. refl;
-  granted = λ x o h k. refl;
-  owner = λ s h. refl;
-  active = λ s h. refl;
-  holds = λ s x h k. refl;
-}
+agree-refl S = agreed refl
 
 pub agree-sym : {S S′ : State} → Agree S S′ → Agree S′ S
-agree-sym a = record {
-  juniors = λ r h. sym (a .juniors r h);
-  permitted = λ x h. sym (a .permitted x h);
-  assigned = λ u h. sym (a .assigned u h);
-  granted = λ x o h k. sym (a .granted x o h k);
-  owner = λ s h. sym (a .owner s h);
-  active = λ s h. sym (a .active s h);
-  holds = λ s x h k. sym (a .holds s x h k);
-}
+agree-sym a = agreed (sym (encode-cong a))
 
 pub agree-trans : {S S′ S″ : State} → Agree S S′ → Agree S′ S″ → Agree S S″
-agree-trans a b = record {
-  juniors = λ r h. a .juniors r h ∙ b .juniors r h;
-  permitted = λ x h. a .permitted x h ∙ b .permitted x h;
-  assigned = λ u h. a .assigned u h ∙ b .assigned u h;
-  granted = λ x o h k. a .granted x o h k ∙ b .granted x o h k;
-  owner = λ s h. a .owner s h ∙ b .owner s h;
-  active = λ s h. a .active s h ∙ b .active s h;
-  holds = λ s x h k. a .holds s x h k ∙ b .holds s x h k;
-}
+agree-trans a b = agreed (encode-cong a ∙ encode-cong b)
 
--- the same word replaced in states that agree, by the same or by words that agree
+-- a section replaced by words that agree, in states that agree
 module _ {S S′ : State} (a : Agree S S′) where
-  pub agree-with-assigned : (u : ℕ) {w w′ : ℕ} → w ≡ w′ → Agree (withAssigned S u w) (withAssigned S′ u w′)
-  agree-with-assigned u {w} {w′} e = record {
+  pub agree-set-assigned : {f g : ℕ → ℕ} → ((u : ℕ) → u < 64 → f u ≡ g u) → Agree (setAssigned S f) (setAssigned S′ g)
+  agree-set-assigned e = record {
     juniors = a .juniors;
     permitted = a .permitted;
-    assigned = λ v h. upd-agree (S .assigned) (S′ .assigned) u v e (a .assigned v h);
+    assigned = e;
     granted = a .granted;
     owner = a .owner;
     active = a .active;
     holds = a .holds;
   }
+
+  pub agree-set-granted : {f g : ℕ → ℕ → ℕ} → ((x o : ℕ) → x < 8 → o < 64 → f x o ≡ g x o) → Agree (setGranted S f) (setGranted S′ g)
+  agree-set-granted e = record {
+    juniors = a .juniors;
+    permitted = a .permitted;
+    assigned = a .assigned;
+    granted = e;
+    owner = a .owner;
+    active = a .active;
+    holds = a .holds;
+  }
+
+  pub agree-set-owner : {f g : ℕ → ℕ} → ((s : ℕ) → s < 32 → f s ≡ g s) → Agree (setOwner S f) (setOwner S′ g)
+  agree-set-owner e = record {
+    juniors = a .juniors;
+    permitted = a .permitted;
+    assigned = a .assigned;
+    granted = a .granted;
+    owner = e;
+    active = a .active;
+    holds = a .holds;
+  }
+
+  pub agree-set-active : {f g : ℕ → ℕ} → ((s : ℕ) → s < 32 → f s ≡ g s) → Agree (setActive S f) (setActive S′ g)
+  agree-set-active e = record {
+    juniors = a .juniors;
+    permitted = a .permitted;
+    assigned = a .assigned;
+    granted = a .granted;
+    owner = a .owner;
+    active = e;
+    holds = a .holds;
+  }
+
+  pub agree-set-holds : {f g : ℕ → ℕ → ℕ} → ((s x : ℕ) → s < 32 → x < 8 → f s x ≡ g s x) → Agree (setHolds S f) (setHolds S′ g)
+  agree-set-holds e = record {
+    juniors = a .juniors;
+    permitted = a .permitted;
+    assigned = a .assigned;
+    granted = a .granted;
+    owner = a .owner;
+    active = a .active;
+    holds = e;
+  }
+
+  -- one word of it
+  pub agree-with-assigned : (u : ℕ) {w w′ : ℕ} → w ≡ w′ → Agree (withAssigned S u w) (withAssigned S′ u w′)
+  agree-with-assigned u e = agree-set-assigned (λ v h. upd-agree (S .assigned) (S′ .assigned) u v e (a .assigned v h))
 
   pub agree-with-granted : (x o : ℕ) {w w′ : ℕ} → w ≡ w′ → Agree (withGranted S x o w) (withGranted S′ x o w′)
-  agree-with-granted x o {w} {w′} e = record {
-    juniors = a .juniors;
-    permitted = a .permitted;
-    assigned = a .assigned;
-    granted = λ y p h k. grid-agree (S .granted) (S′ .granted) x o y p e (a .granted y p h k);
-    owner = a .owner;
-    active = a .active;
-    holds = a .holds;
-  }
+  agree-with-granted x o e = agree-set-granted (λ y p h k. grid-agree (S .granted) (S′ .granted) x o y p e (a .granted y p h k))
 
   pub agree-with-owner : (s : ℕ) {w w′ : ℕ} → w ≡ w′ → Agree (withOwner S s w) (withOwner S′ s w′)
-  agree-with-owner s {w} {w′} e = record {
-    juniors = a .juniors;
-    permitted = a .permitted;
-    assigned = a .assigned;
-    granted = a .granted;
-    owner = λ p h. upd-agree (S .owner) (S′ .owner) s p e (a .owner p h);
-    active = a .active;
-    holds = a .holds;
-  }
+  agree-with-owner s e = agree-set-owner (λ p h. upd-agree (S .owner) (S′ .owner) s p e (a .owner p h))
 
   pub agree-with-active : (s : ℕ) {w w′ : ℕ} → w ≡ w′ → Agree (withActive S s w) (withActive S′ s w′)
-  agree-with-active s {w} {w′} e = record {
-    juniors = a .juniors;
-    permitted = a .permitted;
-    assigned = a .assigned;
-    granted = a .granted;
-    owner = a .owner;
-    active = λ p h. upd-agree (S .active) (S′ .active) s p e (a .active p h);
-    holds = a .holds;
-  }
+  agree-with-active s e = agree-set-active (λ p h. upd-agree (S .active) (S′ .active) s p e (a .active p h))
 
   pub agree-with-holds : (s : ℕ) {f g : ℕ → ℕ} → ((x : ℕ) → x < 8 → f x ≡ g x) → Agree (withHolds S s f) (withHolds S′ s g)
-  agree-with-holds s {f} {g} e = record {
-    juniors = a .juniors;
-    permitted = a .permitted;
-    assigned = a .assigned;
-    granted = a .granted;
-    owner = a .owner;
-    active = a .active;
-    holds = λ p x h l. row-agree (S .holds) (S′ .holds) s p x f g (e x l) (a .holds p x h l);
-  }
+  agree-with-holds s {f} {g} e = agree-set-holds (λ p x h l. row-agree (S .holds) (S′ .holds) s p x f g (e x l) (a .holds p x h l))
 
--- openings replaced twice, and openings that are the session's own
-pub agree-holds-twice : (S : State) (s : ℕ) (f g : ℕ → ℕ) → Agree (withHolds (withHolds S s f) s g) (withHolds S s g)
-agree-holds-twice S s f g = record {
-  juniors = λ r h. refl;
-  permitted = λ x h. refl;
-  assigned = λ u h. refl;
-  granted = λ x o h l. refl;
-  owner = λ p h. refl;
-  active = λ p h. refl;
-  holds = λ p x h l.
+module _ (S : State) where
+  -- openings replaced twice
+  pub agree-holds-twice : (s : ℕ) (f g : ℕ → ℕ) → Agree (withHolds (withHolds S s f) s g) (withHolds S s g)
+  agree-holds-twice s f g =
+      agree-set-holds (agree-refl S) (λ p x h l.
       by-upd (upd (S .holds) s f) s g (λ (w : ℕ → ℕ). w x ≡ upd (S .holds) s g p x) p
       (λ e. sym (ap (λ (n : ℕ). upd (S .holds) s g n x) e ∙ ap (λ (w : ℕ → ℕ). w x) (upd-same (S .holds) s g)))
-      (λ n. ap (λ (w : ℕ → ℕ). w x) (upd-other (S .holds) s f p n ∙ sym (upd-other (S .holds) s g p n)));
-}
+      (λ n. ap (λ (w : ℕ → ℕ). w x) (upd-other (S .holds) s f p n ∙ sym (upd-other (S .holds) s g p n))))
 
--- a word replaced by itself
-module _ (S : State) where
+  -- a word replaced by itself
   pub agree-own-assigned : (u : ℕ) {w : ℕ} → w ≡ S .assigned u → Agree (withAssigned S u w) S
-  agree-own-assigned u {w} e = record {
-    juniors = λ r h. refl;
-    permitted = λ x h. refl;
-    assigned = λ v h. upd-own (S .assigned) u w e v;
-    granted = λ x o h k. refl;
-    owner = λ s h. refl;
-    active = λ s h. refl;
-    holds = λ s x h k. refl;
-  }
+  agree-own-assigned u {w} e = agree-set-assigned (agree-refl S) (λ v h. upd-own (S .assigned) u w e v)
 
   pub agree-own-granted : (x o : ℕ) {w : ℕ} → w ≡ S .granted x o → Agree (withGranted S x o w) S
-  agree-own-granted x o {w} e = record {
-    juniors = λ r h. refl;
-    permitted = λ x h. refl;
-    assigned = λ v h. refl;
-    granted = λ y p h k.
-        by-upd (S .granted) x (upd (S .granted x) o w) (λ (g : ℕ → ℕ). g p ≡ S .granted y p) y
-        (λ q. upd-own (S .granted x) o w e p ∙ sym (ap (λ (n : ℕ). S .granted n p) q)) (λ n. refl);
-    owner = λ s h. refl;
-    active = λ s h. refl;
-    holds = λ s x h k. refl;
-  }
+  agree-own-granted x o {w} e =
+      agree-set-granted (agree-refl S) (λ y p h k.
+      by-upd (S .granted) x (upd (S .granted x) o w) (λ (g : ℕ → ℕ). g p ≡ S .granted y p) y
+      (λ q. upd-own (S .granted x) o w e p ∙ sym (ap (λ (n : ℕ). S .granted n p) q)) (λ n. refl))
 
   pub agree-own-active : (s : ℕ) {w : ℕ} → w ≡ S .active s → Agree (withActive S s w) S
-  agree-own-active s {w} e = record {
-    juniors = λ r h. refl;
-    permitted = λ x h. refl;
-    assigned = λ v h. refl;
-    granted = λ x o h k. refl;
-    owner = λ p h. refl;
-    active = λ p h. upd-own (S .active) s w e p;
-    holds = λ p x h k. refl;
-  }
+  agree-own-active s {w} e = agree-set-active (agree-refl S) (λ p h. upd-own (S .active) s w e p)
 
   pub agree-own-holds : (s : ℕ) {f : ℕ → ℕ} → ((x : ℕ) → x < 8 → f x ≡ S .holds s x) → Agree (withHolds S s f) S
-  agree-own-holds s {f} e = record {
-    juniors = λ r h. refl;
-    permitted = λ x h. refl;
-    assigned = λ v h. refl;
-    granted = λ x o h k. refl;
-    owner = λ p h. refl;
-    active = λ p h. refl;
-    holds = λ p x h k.
-        by-upd (S .holds) s f (λ (g : ℕ → ℕ). g x ≡ S .holds p x) p (λ q. e x k ∙ sym (ap (λ (n : ℕ). S .holds n x) q)) (λ n. refl);
-  }
+  agree-own-holds s {f} e =
+      agree-set-holds (agree-refl S) (λ p x h k.
+      by-upd (S .holds) s f (λ (g : ℕ → ℕ). g x ≡ S .holds p x) p (λ q. e x k ∙ sym (ap (λ (n : ℕ). S .holds n x) q)) (λ n. refl))
 
 module _ {S S′ : State} (a : Agree S S′) where
   pub senior-agree : (r q : ℕ) → r < 64 → senior S r q ≡ senior S′ r q

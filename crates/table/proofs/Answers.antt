@@ -13,8 +13,8 @@ use Rattle.bits.proofs.Word.{has-zero, pack-cong, pack-none}
 use Rattle.bits.proofs.Members.{overlap-elim}
 use Rattle.table.specs.State.{State}
 use Rattle.table.specs.Authority.{permission, covers, authorised, mayActivate, effective}
-use Rattle.table.specs.Reading.{tableLength, state}
-use Rattle.table.specs.Table.{isTable, tabulate}
+use Rattle.table.specs.Reading.{state}
+use Rattle.table.specs.Table.{tableLength, isTable, tabulate}
 use Rattle.table.specs.Answers.{coveredRoles, authorisedRoles, effectivePermissions, activatable, openable, overlay, clearedFrom}
 use Rattle.table.proofs.State.{effective-is}
 use Rattle.table.proofs.Table.{is-table, table-length}

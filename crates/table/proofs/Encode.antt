@@ -1,21 +1,33 @@
 -- The table of a state: it shows that state, every table is the table of the state that it shows, and writing one word
--- replaces one word of the state. Assumes nothing.
-use Prim.Native.Nat.{ℕ, _+_, _*_, _-_, _/_, _%_, _≤_, _<_}
+-- replaces one word of the state. A law of one section says nothing of what comes behind it. Assumes nothing.
+use Prim.Native.Nat.{ℕ, zero, suc, _+_, _*_, _-_, _/_, _%_, _≤_, _<_}
 use mathlib.Core.Path.{_≡_, refl, sym, ap, ap₂, subst, _∙_}
-use mathlib.Core.List.{List, _++_}
+use mathlib.Core.List.{List, [], _∷_, _++_}
 use native.Mathlib.Omega.{arith}
-use lib.Dec.{ltb}
+use native.Mathlib.Nat.{zero-add, suc-add}
+use lib.Dec.{eqb, ltb}
 use lib.ListN.{length, getD, set, length-set, length-append, List·getD-append}
-use lib.Seq.{ext-getD, getD-append-add, getD-set-same, getD-set-other}
-use borrow.Author.Tests.{ltb-true, ltb-false}
+use lib.Seq.{ext-getD, getD-append-add, getD-set-same, getD-set-other, set-append-left}
+use borrow.Author.Tests.{eqb-true, eqb-false, ltb-true, ltb-false}
 use Rattle.bits.proofs.Truth.{by-truth}
 use Rattle.table.specs.State.{State}
 use Rattle.bits.specs.Words.{upd}
 use Rattle.table.specs.Changes.{withAssigned, withGranted, withOwner, withActive, withHolds}
-use Rattle.table.specs.Reading.{tableLength, juniorsAt, permittedAt, assignedAt, grantedAt, ownerAt, activeAt, holdsAt, word, state}
-use Rattle.table.specs.Table.{tabulate, encode}
-use Rattle.table.proofs.Tabulate.{length-tabulate, getD-tabulate}
-use Rattle.table.proofs.Agree.{Agree, agree-refl, agree-sym, agree-trans, by-upd}
+use Rattle.table.specs.Reading.{juniorsAt, permittedAt, assignedAt, grantedAt, ownerAt, activeAt, holdsAt, word, state}
+use Rattle.table.specs.Table.{tableLength, tabulate, encode}
+use Rattle.table.proofs.Tabulate.{length-tabulate, getD-tabulate, tabulate-cong}
+use Rattle.table.proofs.Upd.{upd-same, upd-other, by-upd}
+
+-- ---- agreement, over the users, roles, objects, sessions and modes that there are
+
+pub record Agree (S S′ : State) : Type 0 where
+  pub juniors : (r : ℕ) → r < 64 → S .juniors r ≡ S′ .juniors r
+  pub permitted : (x : ℕ) → x < 8 → S .permitted x ≡ S′ .permitted x
+  pub assigned : (u : ℕ) → u < 64 → S .assigned u ≡ S′ .assigned u
+  pub granted : (x o : ℕ) → x < 8 → o < 64 → S .granted x o ≡ S′ .granted x o
+  pub owner : (s : ℕ) → s < 32 → S .owner s ≡ S′ .owner s
+  pub active : (s : ℕ) → s < 32 → S .active s ≡ S′ .active s
+  pub holds : (s x : ℕ) → s < 32 → x < 8 → S .holds s x ≡ S′ .holds s x
 
 -- ---- reading the table of a state
 
@@ -123,110 +135,129 @@ by-place P j p a g o c h i l =
     holds-place : 712 ≤ i → holdsAt ((i - 712) / 8) ((i - 712) % 8) ≡ i
     holds-place b = omega arith
 
+pub encode-cong : {S S′ : State} → Agree S S′ → encode S ≡ encode S′
+unfolding encode
+encode-cong {S} {S′} a =
+    ap₂ _++_ (tabulate-cong 64 (a .juniors))
+    (ap₂ _++_ (tabulate-cong 8 (a .permitted))
+    (ap₂ _++_ (tabulate-cong 64 (a .assigned))
+    (ap₂ _++_ (tabulate-cong 512 (λ i h. a .granted (i / 64) (i % 64) (omega arith) (omega arith)))
+    (ap₂ _++_ (tabulate-cong 32 (a .owner))
+    (ap₂ _++_ (tabulate-cong 32 (a .active))
+    (tabulate-cong 256 (λ i h. a .holds (i / 8) (i % 8) (omega arith) (omega arith))))))))
+
+-- states with the same table agree
+pub agreed : {S S′ : State} → encode S ≡ encode S′ → Agree S S′
+agreed {S} {S′} e = record {
+  juniors = λ r h. same (juniorsAt r) (state-encode S .juniors r h) (state-encode S′ .juniors r h);
+  permitted = λ x h. same (permittedAt x) (state-encode S .permitted x h) (state-encode S′ .permitted x h);
+  assigned = λ u h. same (assignedAt u) (state-encode S .assigned u h) (state-encode S′ .assigned u h);
+  granted = λ x o h k. same (grantedAt x o) (state-encode S .granted x o h k) (state-encode S′ .granted x o h k);
+  owner = λ s h. same (ownerAt s) (state-encode S .owner s h) (state-encode S′ .owner s h);
+  active = λ s h. same (activeAt s) (state-encode S .active s h) (state-encode S′ .active s h);
+  holds = λ s x h k. same (holdsAt s x) (state-encode S .holds s x h k) (state-encode S′ .holds s x h k);
+}
+  where
+    same : (i : ℕ) {v w : ℕ} → word (encode S) i ≡ v → word (encode S′) i ≡ w → v ≡ w
+    same i p q = sym p ∙ ap (λ (l : List ℕ). word l i) e ∙ q
+
 pub same-table : (t t′ : List ℕ) → length t ≡ tableLength → length t′ ≡ tableLength → Agree (state t) (state t′) → t ≡ t′
 same-table t t′ e e′ a =
     ext-getD 0 t t′ (e ∙ sym e′)
     (λ i h. by-place (λ k. word t k ≡ word t′ k) (a .juniors) (a .permitted) (a .assigned) (a .granted) (a .owner) (a .active) (a .holds) i (omega arith))
 
-pub shown : (t : List ℕ) (S : State) → length t ≡ tableLength → Agree (state t) S → t ≡ encode S
-shown t S e a = same-table t (encode S) e (encode-length S) (agree-trans a (agree-sym (state-encode S)))
-
-pub encode-cong : {S S′ : State} → Agree S S′ → encode S ≡ encode S′
-encode-cong {S} {S′} a = shown (encode S) S′ (encode-length S) (agree-trans (state-encode S) a)
-
 -- the state that a table shows
 pub encode-state : (t : List ℕ) → length t ≡ tableLength → t ≡ encode (state t)
-encode-state t e = shown t (state t) e (agree-refl (state t))
+encode-state t e = sym (same-table (encode (state t)) t (encode-length (state t)) e (state-encode (state t)))
 
--- ---- writing one word
+pub shown : (t : List ℕ) (S : State) → length t ≡ tableLength → Agree (state t) S → t ≡ encode S
+shown t S e a = encode-state t e ∙ encode-cong a
+
+-- ---- writing one word of a section
+
+append-later : (xs ys : List ℕ) (i v : ℕ) → set (xs ++ ys) (length xs + i) v ≡ xs ++ set ys i v
+append-later [] ys i v = ap (λ (k : ℕ). set ys k v) (zero-add i)
+append-later (x ∷ xs) ys i v =
+    ap (λ (k : ℕ). set (x ∷ (xs ++ ys)) k v) (suc-add (length xs) i) ∙ ap (λ (l : List ℕ). x ∷ l) (append-later xs ys i v)
+
+module _ (n : ℕ) (f : ℕ → ℕ) where
+  set-tabulate : (i v : ℕ) → i < n → set (tabulate n f) i v ≡ tabulate n (upd f i v)
+  set-tabulate i v h =
+      ext-getD 0 (set (tabulate n f) i v) (tabulate n (upd f i v)) (length-set (tabulate n f) i v ∙ length-tabulate n f ∙ sym (length-tabulate n (upd f i v)))
+      (λ j k.
+      let l : length (set (tabulate n f) i v) ≡ n = length-set (tabulate n f) i v ∙ length-tabulate n f in
+      by-upd f i v (λ (w : ℕ). getD (set (tabulate n f) i v) j 0 ≡ w) j
+      (λ e. ap (λ (m : ℕ). getD (set (tabulate n f) i v) m 0) e ∙ getD-set-same (tabulate n f) i v 0 (let m = length-tabulate n f in omega arith))
+      (λ d. getD-set-other (tabulate n f) i j v 0 d ∙ getD-tabulate n f 0 j (omega arith))
+      ∙ sym (getD-tabulate n (upd f i v) 0 j (omega arith)))
+
+  set-first : (ys : List ℕ) (i v : ℕ) → i < n → set (tabulate n f ++ ys) i v ≡ tabulate n (upd f i v) ++ ys
+  set-first ys i v h =
+      set-append-left (tabulate n f) ys i v (let e = length-tabulate n f in omega arith) ∙ ap (λ (l : List ℕ). l ++ ys) (set-tabulate i v h)
+
+  -- past a section, and what is written behind it
+  past : (ys : List ℕ) (i j v : ℕ) {zs : List ℕ} → j ≡ n + i → set ys i v ≡ zs → set (tabulate n f ++ ys) j v ≡ tabulate n f ++ zs
+  past ys i j v e k =
+      ap (λ (m : ℕ). set (tabulate n f ++ ys) m v) (e ∙ sym (ap (λ (m : ℕ). m + i) (length-tabulate n f)))
+      ∙ append-later (tabulate n f) ys i v
+      ∙ ap (λ (l : List ℕ). tabulate n f ++ l) k
+
+-- a word of a section in rows: the place at is the only one in row x and column o
+by-rows : (row column : ℕ → ℕ) (g : ℕ → ℕ → ℕ) (at x o v i : ℕ) → row at ≡ x → column at ≡ o → (row i ≡ x → column i ≡ o → i ≡ at)
+    → upd (λ j. g (row j) (column j)) at v i ≡ upd g x (upd (g x) o v) (row i) (column i)
+by-rows row column g at x o v i er ec only =
+    by-truth (eqb (row i) x)
+    (λ b.
+    let e = eqb-true (row i) x b in
+    let there : (p : ℕ) → upd g x (upd (g x) o v) (row i) p ≡ upd (g x) o v p =
+    λ p. ap (λ (a : ℕ). upd g x (upd (g x) o v) a p) e ∙ ap (λ (f : ℕ → ℕ). f p) (upd-same g x (upd (g x) o v)) in
+    by-upd (λ j. g (row j) (column j)) at v (λ (w : ℕ). w ≡ upd g x (upd (g x) o v) (row i) (column i)) i
+    (λ q. sym (there (column i) ∙ ap (upd (g x) o v) (ap column q ∙ ec) ∙ upd-same (g x) o v))
+    (λ n. sym (there (column i) ∙ upd-other (g x) o v (column i) (λ c. n (only e c)) ∙ sym (ap (λ (a : ℕ). g a (column i)) e))))
+    (λ b.
+    let d = eqb-false (row i) x b in
+    upd-other (λ j. g (row j) (column j)) at v i (λ q. d (ap row q ∙ er)) ∙ sym (ap (λ (f : ℕ → ℕ). f (column i)) (upd-other g x (upd (g x) o v) (row i) d)))
+
+module _ (S : State) where
+  -- behind the permissions, and behind the grants
+  past-permitted : (i j v : ℕ) {zs : List ℕ} → j ≡ 72 + i → set (from-assigned S) i v ≡ zs
+      → set (encode S) j v ≡ tabulate 64 (S .juniors) ++ (tabulate 8 (S .permitted) ++ zs)
+  unfolding encode
+  past-permitted i j v e k = past 64 _ _ (8 + i) j v (omega arith) (past 8 _ _ i (8 + i) v refl k)
+
+  past-granted : (i j v : ℕ) {zs : List ℕ} → j ≡ 648 + i → set (from-owner S) i v ≡ zs
+      → set (encode S) j v
+      ≡ tabulate 64 (S .juniors) ++ (tabulate 8 (S .permitted) ++ (tabulate 64 (S .assigned) ++ (tabulate 512 (λ i. S .granted (i / 64) (i % 64)) ++ zs)))
+  past-granted i j v e k =
+      past-permitted (576 + i) j v (omega arith) (past 64 _ _ (512 + i) (576 + i) v (omega arith) (past 512 _ _ i (512 + i) v refl k))
 
 module _ {t : List ℕ} (S : State) (z : t ≡ encode S) where
-  long : length t ≡ tableLength
-  long = ap length z ∙ encode-length S
-
-  shows : Agree (state t) S
-  shows = rw z (state-encode S)
-
-  other : (i v j : ℕ) → (j ≡ i → ⊥) → word (set t i v) j ≡ word t j
-  other i v j n = getD-set-other t i j v 0 n
-
-  written : (i v : ℕ) (S′ : State) → Agree (state (set t i v)) S′ → set t i v ≡ encode S′
-  written i v S′ a = shown (set t i v) S′ (length-set t i v ∙ long) a
-
-  -- a word of a section that is written at one index
-  section : (at f : ℕ → ℕ) (i v j : ℕ) → at i < tableLength → (at j ≡ at i → j ≡ i) → word t (at j) ≡ f j
-      → word (set t (at i) v) (at j) ≡ upd f i v j
-  section at f i v j h k q =
-      by-upd f i v (λ (n : ℕ). word (set t (at i) v) (at j) ≡ n) j
-      (λ e. ap (λ (n : ℕ). word (set t (at i) v) (at n)) e ∙ getD-set-same t (at i) v 0 (let l = long in omega arith))
-      (λ n. other (at i) v (at j) (λ e. n (k e)) ∙ q)
-
-  -- a word of a section that is written at one of two indexes
-  grid : (at f : ℕ → ℕ → ℕ) (i p v j q : ℕ) → at i p < tableLength → (at j q ≡ at i p → (j ≡ i) × (q ≡ p)) → word t (at j q) ≡ f j q
-      → word (set t (at i p) v) (at j q) ≡ upd f i (upd (f i) p v) j q
-  grid at f i p v j q h k w =
-      by-upd f i (upd (f i) p v) (λ (g : ℕ → ℕ). word (set t (at i p) v) (at j q) ≡ g q) j
-      (λ e.
-      ap (λ (n : ℕ). word (set t (at i p) v) (at n q)) e
-      ∙ section (at i) (f i) p v q h (λ y. k (ap (λ (n : ℕ). at n q) e ∙ y) .1) (sym (ap (λ (n : ℕ). word t (at n q)) e) ∙ w ∙ ap (λ (n : ℕ). f n q) e))
-      (λ n. other (at i p) v (at j q) (λ y. n (k y .0)) ∙ w)
+  on : (i v : ℕ) → set t i v ≡ set (encode S) i v
+  on i v = ap (λ (l : List ℕ). set l i v) z
 
   pub write-assigned : (u v : ℕ) → u < 64 → set t (assignedAt u) v ≡ encode (withAssigned S u v)
-  write-assigned u v h =
-      written (assignedAt u) v _ (record {
-        juniors = λ r l. other _ v _ (omega arith) ∙ shows .juniors r l;
-        permitted = λ x l. other _ v _ (omega arith) ∙ shows .permitted x l;
-        assigned = λ w l. section assignedAt _ u v w (omega arith) (omega arith) (shows .assigned w l);
-        granted = λ x o k l. other _ v _ (omega arith) ∙ shows .granted x o k l;
-        owner = λ s l. other _ v _ (omega arith) ∙ shows .owner s l;
-        active = λ s l. other _ v _ (omega arith) ∙ shows .active s l;
-        holds = λ s x k l. other _ v _ (omega arith) ∙ shows .holds s x k l;
-      })
+  unfolding encode
+  write-assigned u v h = on (assignedAt u) v ∙ past-permitted S u (assignedAt u) v refl (set-first 64 _ _ u v h)
 
   pub write-granted : (x o v : ℕ) → x < 8 → o < 64 → set t (grantedAt x o) v ≡ encode (withGranted S x o v)
+  unfolding encode
   write-granted x o v hx ho =
-      written (grantedAt x o) v _ (record {
-        juniors = λ r l. other _ v _ (omega arith) ∙ shows .juniors r l;
-        permitted = λ x l. other _ v _ (omega arith) ∙ shows .permitted x l;
-        assigned = λ w l. other _ v _ (omega arith) ∙ shows .assigned w l;
-        granted = λ y p k l. grid grantedAt _ x o v y p (omega arith) (λ e. (omega arith, omega arith)) (shows .granted y p k l);
-        owner = λ s l. other _ v _ (omega arith) ∙ shows .owner s l;
-        active = λ s l. other _ v _ (omega arith) ∙ shows .active s l;
-        holds = λ s x k l. other _ v _ (omega arith) ∙ shows .holds s x k l;
-      })
+      on (grantedAt x o) v
+      ∙ past-permitted S (64 + (64 * x + o)) (grantedAt x o) v (omega arith) (past 64 _ _ (64 * x + o) (64 + (64 * x + o)) v refl
+      (set-first 512 _ _ (64 * x + o) v (omega arith) ∙ ap (λ (l : List ℕ). l ++ from-owner S) (tabulate-cong 512 (λ i h. by-rows (λ j. j / 64) (λ j. j % 64) (S .granted) (64 * x + o) x o v i (omega arith) (omega arith) (λ p q. omega arith)))))
 
   pub write-owner : (s v : ℕ) → s < 32 → set t (ownerAt s) v ≡ encode (withOwner S s v)
-  write-owner s v h =
-      written (ownerAt s) v _ (record {
-        juniors = λ r l. other _ v _ (omega arith) ∙ shows .juniors r l;
-        permitted = λ x l. other _ v _ (omega arith) ∙ shows .permitted x l;
-        assigned = λ w l. other _ v _ (omega arith) ∙ shows .assigned w l;
-        granted = λ x o k l. other _ v _ (omega arith) ∙ shows .granted x o k l;
-        owner = λ p l. section ownerAt _ s v p (omega arith) (omega arith) (shows .owner p l);
-        active = λ s l. other _ v _ (omega arith) ∙ shows .active s l;
-        holds = λ s x k l. other _ v _ (omega arith) ∙ shows .holds s x k l;
-      })
+  unfolding encode
+  write-owner s v h = on (ownerAt s) v ∙ past-granted S s (ownerAt s) v refl (set-first 32 _ _ s v h)
 
   pub write-active : (s v : ℕ) → s < 32 → set t (activeAt s) v ≡ encode (withActive S s v)
+  unfolding encode
   write-active s v h =
-      written (activeAt s) v _ (record {
-        juniors = λ r l. other _ v _ (omega arith) ∙ shows .juniors r l;
-        permitted = λ x l. other _ v _ (omega arith) ∙ shows .permitted x l;
-        assigned = λ w l. other _ v _ (omega arith) ∙ shows .assigned w l;
-        granted = λ x o k l. other _ v _ (omega arith) ∙ shows .granted x o k l;
-        owner = λ s l. other _ v _ (omega arith) ∙ shows .owner s l;
-        active = λ p l. section activeAt _ s v p (omega arith) (omega arith) (shows .active p l);
-        holds = λ s x k l. other _ v _ (omega arith) ∙ shows .holds s x k l;
-      })
+      on (activeAt s) v ∙ past-granted S (32 + s) (activeAt s) v (omega arith) (past 32 _ _ s (32 + s) v refl (set-first 32 _ _ s v h))
 
   pub write-holds : (s x v : ℕ) → s < 32 → x < 8 → set t (holdsAt s x) v ≡ encode (withHolds S s (upd (S .holds s) x v))
+  unfolding encode
   write-holds s x v hs hx =
-      written (holdsAt s x) v _ (record {
-        juniors = λ r l. other _ v _ (omega arith) ∙ shows .juniors r l;
-        permitted = λ x l. other _ v _ (omega arith) ∙ shows .permitted x l;
-        assigned = λ w l. other _ v _ (omega arith) ∙ shows .assigned w l;
-        granted = λ y p k l. other _ v _ (omega arith) ∙ shows .granted y p k l;
-        owner = λ s l. other _ v _ (omega arith) ∙ shows .owner s l;
-        active = λ s l. other _ v _ (omega arith) ∙ shows .active s l;
-        holds = λ p y k l. grid holdsAt _ s x v p y (omega arith) (λ e. (omega arith, omega arith)) (shows .holds p y k l);
-      })
+      on (holdsAt s x) v
+      ∙ past-granted S (64 + (8 * s + x)) (holdsAt s x) v (omega arith) (past 32 _ _ (32 + (8 * s + x)) (64 + (8 * s + x)) v (omega arith) (past 32 _ _ (8 * s + x) (32 + (8 * s + x)) v refl
+      (set-tabulate 256 _ (8 * s + x) v (omega arith) ∙ tabulate-cong 256 (λ i h. by-rows (λ j. j / 8) (λ j. j % 8) (S .holds) (8 * s + x) s x v i (omega arith) (omega arith) (λ p q. omega arith)))))

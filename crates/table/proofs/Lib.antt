@@ -2,6 +2,7 @@
 pub mod State
 pub mod Sound
 pub mod Claims
+pub mod Upd
 pub mod Agree
 pub mod Keeps
 pub mod Tabulate

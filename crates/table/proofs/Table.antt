@@ -8,8 +8,7 @@ use lib.ListN.{length}
 use borrow.Author.Tests.{eq-eqb, ne-eqb, eqb-true, lt-ltb, le-ltb}
 use Rattle.bits.specs.Words.{_and_}
 use Rattle.bits.proofs.Truth.{and-intro, and-false, false-and}
-use Rattle.table.specs.Reading.{tableLength}
-use Rattle.table.specs.Table.{isTable}
+use Rattle.table.specs.Table.{tableLength, isTable}
 
 module _ (t : List ℕ) where
   pub is-table : length t ≡ tableLength → isTable t ≡ true

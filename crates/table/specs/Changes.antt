@@ -1,59 +1,74 @@
--- A state with one of its words replaced.
+-- A state with one of its sections replaced, and with one of its words.
 use Rattle.bits.specs.Words.{ℕ, upd}
 use Rattle.table.specs.State.{State}
 
-abbrev pub withAssigned : State → ℕ → ℕ → State
-withAssigned S u w = record {
+abbrev pub setAssigned : State → (ℕ → ℕ) → State
+setAssigned S f = record {
   juniors = S .juniors;
   permitted = S .permitted;
-  assigned = upd (S .assigned) u w;
+  assigned = f;
   granted = S .granted;
   owner = S .owner;
   active = S .active;
   holds = S .holds;
 }
+
+abbrev pub setGranted : State → (ℕ → ℕ → ℕ) → State
+setGranted S f = record {
+  juniors = S .juniors;
+  permitted = S .permitted;
+  assigned = S .assigned;
+  granted = f;
+  owner = S .owner;
+  active = S .active;
+  holds = S .holds;
+}
+
+abbrev pub setOwner : State → (ℕ → ℕ) → State
+setOwner S f = record {
+  juniors = S .juniors;
+  permitted = S .permitted;
+  assigned = S .assigned;
+  granted = S .granted;
+  owner = f;
+  active = S .active;
+  holds = S .holds;
+}
+
+abbrev pub setActive : State → (ℕ → ℕ) → State
+setActive S f = record {
+  juniors = S .juniors;
+  permitted = S .permitted;
+  assigned = S .assigned;
+  granted = S .granted;
+  owner = S .owner;
+  active = f;
+  holds = S .holds;
+}
+
+abbrev pub setHolds : State → (ℕ → ℕ → ℕ) → State
+setHolds S f = record {
+  juniors = S .juniors;
+  permitted = S .permitted;
+  assigned = S .assigned;
+  granted = S .granted;
+  owner = S .owner;
+  active = S .active;
+  holds = f;
+}
+
+abbrev pub withAssigned : State → ℕ → ℕ → State
+withAssigned S u w = setAssigned S (upd (S .assigned) u w)
 
 abbrev pub withGranted : State → ℕ → ℕ → ℕ → State
-withGranted S x o w = record {
-  juniors = S .juniors;
-  permitted = S .permitted;
-  assigned = S .assigned;
-  granted = upd (S .granted) x (upd (S .granted x) o w);
-  owner = S .owner;
-  active = S .active;
-  holds = S .holds;
-}
+withGranted S x o w = setGranted S (upd (S .granted) x (upd (S .granted x) o w))
 
 abbrev pub withOwner : State → ℕ → ℕ → State
-withOwner S s w = record {
-  juniors = S .juniors;
-  permitted = S .permitted;
-  assigned = S .assigned;
-  granted = S .granted;
-  owner = upd (S .owner) s w;
-  active = S .active;
-  holds = S .holds;
-}
+withOwner S s w = setOwner S (upd (S .owner) s w)
 
 abbrev pub withActive : State → ℕ → ℕ → State
-withActive S s w = record {
-  juniors = S .juniors;
-  permitted = S .permitted;
-  assigned = S .assigned;
-  granted = S .granted;
-  owner = S .owner;
-  active = upd (S .active) s w;
-  holds = S .holds;
-}
+withActive S s w = setActive S (upd (S .active) s w)
 
 -- the eight words of openings of session s, one a mode
 abbrev pub withHolds : State → ℕ → (ℕ → ℕ) → State
-withHolds S s f = record {
-  juniors = S .juniors;
-  permitted = S .permitted;
-  assigned = S .assigned;
-  granted = S .granted;
-  owner = S .owner;
-  active = S .active;
-  holds = upd (S .holds) s f;
-}
+withHolds S s f = setHolds S (upd (S .holds) s f)

@@ -3,10 +3,6 @@
 use Rattle.bits.specs.Words.{ℕ, _+_, _*_, List, getD}
 use Rattle.table.specs.State.{State}
 
--- the number of words of a table
-abbrev pub tableLength : ℕ
-tableLength = 968
-
 -- ---- where each word stands
 
 abbrev pub juniorsAt : ℕ → ℕ

@@ -1,17 +1,20 @@
--- The table of 01 ("The table"): 968 words that show a state.
+-- The table of 01 ("The table"): the words that show a state.
 use Rattle.bits.specs.Words.{ℕ, zero, suc, _/_, _%_, Bool, List, [], _∷_, _++_, eqb, length}
 use Rattle.table.specs.State.{State}
 
+-- the number of words of a table
+abbrev pub tableLength : ℕ
+tableLength = 968
+
 unfoldable pub isTable : List ℕ → Bool
-isTable t = eqb (length t) 968
+isTable t = eqb (length t) tableLength
 
 -- f 0, f 1, .. , f (n - 1)
 unfoldable pub tabulate : {A : Type 0} → ℕ → (ℕ → A) → List A
 tabulate zero f = []
 tabulate (suc n) f = f 0 ∷ tabulate n (λ i. f (suc i))
 
--- its sections in order: 64 words of juniors, 8 of permissions, 64 of assignments, 8 times 64 of grants, 32 of owners,
--- 32 of active roles, 32 times 8 of openings
+-- its sections, in the order of 01
 unfoldable pub encode : State → List ℕ
 encode S =
     tabulate 64 (S .juniors)

@@ -14,12 +14,13 @@ ghost use Rattle.bits.specs.Words.{_and_, pack};
 ghost use Rattle.bits.specs.Sets.{some, overlap};
 ghost use Rattle.table.specs.Authority.{permission, covers};
 ghost use Rattle.table.specs.Reading.{state};
+ghost use Rattle.table.specs.Table.{tableLength};
 ghost use Rattle.table.specs.Answers;
 ghost use Rattle.table.specs.Answers.{coveredRoles, authorisedRoles, effectivePermissions, activatable, openable, clearedFrom};
 
 // The roles and all their juniors.
 fn juniors_of(t: &[u64], roles: u64) -> u64
-    requires { ⌜ length (now t) ≡ 968 ⌝ }
+    requires { ⌜ length (now t) ≡ tableLength ⌝ }
     ensures { λ r. ⌜ r ≡ pack 64 (covers (state (now (t .entry))) roles) ⌝ }
 {
     let mut all: u64 = 0;
@@ -57,7 +58,7 @@ pub fn authorised_roles(t: &[u64], u: usize) -> u64
 
 // The permissions of mode x that are granted to one of the roles.
 fn granted_objects(t: &[u64], roles: u64, x: usize) -> u64
-    requires { ⌜ (length (now t) ≡ 968) × (x < 8) ⌝ }
+    requires { ⌜ (length (now t) ≡ tableLength) × (x < 8) ⌝ }
     ensures { λ r. ⌜ r ≡ pack 64 (λ o. permission (state (now (t .entry))) x o and overlap (state (now (t .entry)) .granted x o) roles) ⌝ }
 {
     if roles == 0 {
@@ -95,7 +96,7 @@ pub fn effective_permissions(t: &[u64], s: usize) -> [u64; 8]
 
 // Whether one of the granted roles is one of the roles or a junior of one.
 fn is_covered(t: &[u64], roles: u64, granted: u64) -> bool
-    requires { ⌜ length (now t) ≡ 968 ⌝ }
+    requires { ⌜ length (now t) ≡ tableLength ⌝ }
     ensures { λ b. ⌜ b ≡ some roles (λ r. overlap granted (state (now (t .entry)) .juniors r)) ⌝ }
 {
     let mut left = roles;

@@ -6,10 +6,10 @@ use mathlib.Core.List.{List}
 use Rattle.table.proofs.Table.{is-table, not-table}
 use Rattle.machine.specs.Wall.{trace, final}
 use Rattle.labels.specs.Guard.{imageStep}
-use Rattle.demand.specs.Run.{asks, flat, kept}
-use Rattle.demand.proofs.Running.{three, run-short, run-unpaired, odd-words, other-replies, is-paired, run-refused, run-accepted}
-use Rattle.demand.proofs.run.Statement.{statement}
-use Rattle.demand.proofs.run.Tie as tie
+use Rattle.simulation.specs.Run.{asks, flat, kept}
+use Rattle.simulation.proofs.Running.{three, run-short, run-unpaired, odd-words, other-replies, is-paired, run-refused, run-accepted}
+use Rattle.simulation.proofs.run.Statement.{statement}
+use Rattle.simulation.proofs.run.Tie as tie
 
 returns : tie.Need-returns
 returns c =

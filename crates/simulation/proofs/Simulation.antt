@@ -28,10 +28,10 @@ use Rattle.image.proofs.Claims.{sound-image, passes}
 use Rattle.labels.specs.Guard.{labelStep, imageStep}
 use Rattle.labels.proofs.Claims.{served-same, kept-sound}
 use Rattle.labels.proofs.Refusing.{translated-code, translated-argument, translated-plan, label-step-image}
-use Rattle.demand.proofs.Deciding.{pictured, picture-refuse}
-use Rattle.demand.proofs.Single.{Simulated, open-same, close-same, end-same}
-use Rattle.demand.proofs.Starting.{start-same}
-use Rattle.demand.proofs.Reclearing.{reclear-all-same}
+use Rattle.simulation.proofs.Deciding.{pictured, picture-refuse}
+use Rattle.simulation.proofs.Single.{Simulated, open-same, close-same, end-same}
+use Rattle.simulation.proofs.Starting.{start-same}
+use Rattle.simulation.proofs.Reclearing.{reclear-all-same}
 
 -- the seat of a session after one seat was changed
 by-seat : {A : Type 0} (seat : ℕ → Seat) (t : ℕ) (new : Seat) (s u y : ℕ) → upd seat t new s ≡ at u y → (new ≡ at u y → A) → (seat s ≡ at u y → A) → A

@@ -12,7 +12,7 @@ use Rattle.roles.specs.Request.{Ask}
 use Rattle.machine.specs.Machine.{Machine, idle, step, begin}
 use Rattle.machine.specs.Wall.{final}
 use Rattle.machine.proofs.Tracing.{final-last}
-use Rattle.demand.proofs.Simulation.{Good, next-good}
+use Rattle.simulation.proofs.Simulation.{Good, next-good}
 
 module _ (m : Machine) where
   abbrev pub clearances : List ℕ

@@ -3,8 +3,7 @@ use Prim.Native.Nat.{ℕ, _<_}
 use mathlib.Core.Path.{_≡_, sym, ap, ap₂, subst, _∙_}
 use mathlib.Core.Bool.{true}
 use mathlib.Core.List.{List}
-use Rattle.table.specs.Reading.{tableLength}
-use Rattle.table.specs.Table.{isTable, tabulate}
+use Rattle.table.specs.Table.{tableLength, isTable, tabulate}
 use Rattle.table.proofs.Tabulate.{length-tabulate}
 use Rattle.table.proofs.Table.{is-table}
 use Rattle.sound.specs.Answers.{isSound}
@@ -15,11 +14,11 @@ use Rattle.machine.proofs.Tracing.{final-keeps}
 use Rattle.image.specs.Claims.{Ranged, Safe}
 use Rattle.image.proofs.Claims.{sound-image, image-means}
 use Rattle.image.proofs.Beginning.{accepted}
-use Rattle.demand.specs.Claims.{Same, Reachable, ReachableImage, ReachableMeans}
-use Rattle.demand.proofs.Simulation.{Good, next-good}
-use Rattle.demand.proofs.Demand.{begin-good}
-use Rattle.demand.proofs.Toward.{clearances, labels}
-use Rattle.demand.proofs.Reaching.{safe-reached}
+use Rattle.simulation.specs.Claims.{Same, Reachable, ReachableImage, ReachableMeans}
+use Rattle.simulation.proofs.Simulation.{Good, next-good}
+use Rattle.simulation.proofs.Demand.{begin-good}
+use Rattle.simulation.proofs.Toward.{clearances, labels}
+use Rattle.simulation.proofs.Reaching.{safe-reached}
 
 module _ {m n : Machine} where
   same-ranged : Same m n → Ranged n → Ranged m

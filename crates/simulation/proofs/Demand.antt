@@ -14,9 +14,9 @@ use Rattle.image.specs.Image.{image}
 use Rattle.image.specs.SetUp.{labelSetUp}
 use Rattle.image.proofs.Beginning.{passed, accepted, begin-ranged, begin-safe}
 use Rattle.labels.specs.Guard.{labelStep}
-use Rattle.demand.specs.Demand.{Simulates, Demand3}
-use Rattle.demand.proofs.Deciding.{pictured}
-use Rattle.demand.proofs.Simulation.{Good, one-step, next-good}
+use Rattle.simulation.specs.Demand.{Simulates, Demand3}
+use Rattle.simulation.proofs.Deciding.{pictured}
+use Rattle.simulation.proofs.Simulation.{Good, one-step, next-good}
 
 -- ---- from any good state on, with either of the two label guards
 

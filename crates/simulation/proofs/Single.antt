@@ -21,8 +21,8 @@ use Rattle.image.specs.Image.{seatRoles, seatOwner, shown, image}
 use Rattle.image.specs.Claims.{Ranged, Safe}
 use Rattle.image.proofs.Shown.{safe-sound, effective-shown, idle-shown}
 use Rattle.labels.specs.Guard.{plan, carryOut}
-use Rattle.demand.proofs.Deciding.{single-decided, pictured, picture-decide}
-use Rattle.demand.proofs.Changing.{opened-agrees, closed-agrees, seat-agrees}
+use Rattle.simulation.proofs.Deciding.{single-decided, pictured, picture-decide}
+use Rattle.simulation.proofs.Changing.{opened-agrees, closed-agrees, seat-agrees}
 
 -- a label request on the image of m comes to what it comes to on m, with the image of what is left
 abbrev pub Simulated : Machine → Request → Type 0

@@ -9,7 +9,7 @@ ghost use lib.ListN.{length};
 ghost use Rattle.roles.specs.Answer.{numberOf};
 ghost use Rattle.machine.specs.Wall.{trace, final};
 ghost use Rattle.labels.specs.Guard.{imageStep};
-ghost use Rattle.demand.specs.Run.{serveAt, asks, flat, machineRun};
+ghost use Rattle.simulation.specs.Run.{serveAt, asks, flat, machineRun};
 
 // The label request at place i of a list of words, four words each, on a table that is known to be a sound image; 18 past the
 // end of the list.

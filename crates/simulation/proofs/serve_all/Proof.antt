@@ -6,9 +6,9 @@ use mathlib.Core.List.{List}
 use lib.ListN.{length}
 use Rattle.roles.specs.Request.{Outcome}
 use Rattle.labels.specs.Guard.{imageStep}
-use Rattle.demand.proofs.Listing.{Serving, second-place, serve-start, serve-step, served-table, served-replies, serve-here}
-use Rattle.demand.proofs.serve_all.Statement.{statement}
-use Rattle.demand.proofs.serve_all.Tie as tie
+use Rattle.simulation.proofs.Listing.{Serving, second-place, serve-start, serve-step, served-table, served-replies, serve-here}
+use Rattle.simulation.proofs.serve_all.Statement.{statement}
+use Rattle.simulation.proofs.serve_all.Tie as tie
 
 abbrev Inv-loop : tie.InvT-loop
 Inv-loop t₀ words replies₀ i₀ i-end t replies i = Serving imageStep words t₀ t replies i

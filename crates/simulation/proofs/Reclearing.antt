@@ -36,9 +36,9 @@ use Rattle.image.proofs.Claims.{read-clearance}
 use Rattle.image.proofs.Roles.{seat-elim, seat-reads, authorised-read, authorised-write}
 use Rattle.image.proofs.Shown.{safe-sound, shown-juniors, assigned-is, active-is, owner-is, seated}
 use Rattle.labels.proofs.Carrying.{reclear-same, reclear-kept, reclear-changed}
-use Rattle.demand.proofs.Deciding.{Answered, answered-yes, answered-no, answered-on, pictured}
-use Rattle.demand.proofs.Changing.{roles-changed, roles-back, cleared-agrees, own-clearance}
-use Rattle.demand.proofs.Single.{no-owner, Simulated, decided}
+use Rattle.simulation.proofs.Deciding.{Answered, answered-yes, answered-no, answered-on, pictured}
+use Rattle.simulation.proofs.Changing.{roles-changed, roles-back, cleared-agrees, own-clearance}
+use Rattle.simulation.proofs.Single.{no-owner, Simulated, decided}
 
 module _ (m : Machine) (g : Ranged m) (f : Safe m) where
   abbrev S : State

@@ -20,8 +20,8 @@ use Rattle.machine.proofs.Tracing.{final-none}
 use Rattle.image.specs.SetUp.{areLabels}
 use Rattle.image.specs.Claims.{Ranged, Safe}
 use Rattle.image.proofs.Beginning.{accepted, begin-ranged, begin-safe}
-use Rattle.demand.specs.Claims.{Same, Reachable}
-use Rattle.demand.proofs.Toward.{clearances, labels, Toward, Further, stay, through, sweep, asked, good-after}
+use Rattle.simulation.specs.Claims.{Same, Reachable}
+use Rattle.simulation.proofs.Toward.{clearances, labels, Toward, Further, stay, through, sweep, asked, good-after}
 
 module _ (m : Machine) (g : Ranged m) (f : Safe m) where
   -- session s opens o in mode x

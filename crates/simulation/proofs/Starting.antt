@@ -29,9 +29,9 @@ use Rattle.image.specs.Claims.{Ranged, Safe}
 use Rattle.image.proofs.Roles.{authorised-read, authorised-write}
 use Rattle.image.proofs.Shown.{safe-sound, shown-juniors, assigned-is, idle-shown}
 use Rattle.labels.proofs.Carrying.{start-busy, start-uncleared, start-cleared}
-use Rattle.demand.proofs.Deciding.{Answered, answered-yes, answered-no, answered-on}
-use Rattle.demand.proofs.Changing.{session-agrees, seat-agrees}
-use Rattle.demand.proofs.Single.{Simulated, decided}
+use Rattle.simulation.proofs.Deciding.{Answered, answered-yes, answered-no, answered-on}
+use Rattle.simulation.proofs.Changing.{session-agrees, seat-agrees}
+use Rattle.simulation.proofs.Single.{Simulated, decided}
 
 owner-at : (u y : ℕ) → suc u ≡ seatOwner (at u y)
 unfolding seatOwner

@@ -12,9 +12,9 @@ use Rattle.machine.specs.Wall.{trace, final}
 use Rattle.image.specs.SetUp.{labelSetUp}
 use Rattle.image.proofs.Beginning.{set-up-refused}
 use Rattle.labels.specs.Guard.{imageStep}
-use Rattle.demand.specs.Run.{asks, flat, paired, Left, kept, machineRun}
-use Rattle.demand.proofs.Simulation.{one-step-served}
-use Rattle.demand.proofs.Demand.{trace-agrees, final-agrees, begin-good, begin-table}
+use Rattle.simulation.specs.Run.{asks, flat, paired, Left, kept, machineRun}
+use Rattle.simulation.proofs.Simulation.{one-step-served}
+use Rattle.simulation.proofs.Demand.{trace-agrees, final-agrees, begin-good, begin-table}
 
 -- the three clauses of a contract
 pub three : {n : ℕ} {t out : List ℕ} {l : Left} → l ≡ kept n t out → (n ≡ l .answer) × ((t ≡ l .table) × (out ≡ l .replies))

@@ -14,7 +14,7 @@ use Rattle.roles.specs.Request.{Ask, Outcome, refuse}
 use Rattle.machine.specs.Wall.{Event, trace, final}
 use Rattle.machine.proofs.Tracing.{trace-none, trace-first, final-none, final-first}
 use Rattle.labels.specs.Guard.{imageStep}
-use Rattle.demand.specs.Run.{askAt, serveAt, asks, flat}
+use Rattle.simulation.specs.Run.{askAt, serveAt, asks, flat}
 
 -- ---- the requests from place i on
 

@@ -2,10 +2,10 @@
 use borrow.Author.Needs.{needs}
 use mathlib.Core.Path.{refl}
 use Rattle.labels.proofs.Replying.{refused-clauses, clauses-as}
-use Rattle.demand.specs.Run.{askAt}
-use Rattle.demand.proofs.Listing.{serve-past, serve-here}
-use Rattle.demand.proofs.serve_at.Statement.{statement}
-use Rattle.demand.proofs.serve_at.Tie as tie
+use Rattle.simulation.specs.Run.{askAt}
+use Rattle.simulation.proofs.Listing.{serve-past, serve-here}
+use Rattle.simulation.proofs.serve_at.Statement.{statement}
+use Rattle.simulation.proofs.serve_at.Tie as tie
 
 returns : tie.Need-returns
 returns c =
