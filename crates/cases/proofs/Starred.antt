@@ -55,7 +55,7 @@ shows-met (holds b ∷ rest) S f h = (h .0, shows-met rest S f (h .1))
 
 shown : Shows (fresh rows permissions) starred
 unfolding starred permissions fresh move stay isCode limits inRange within decode known changed allowedSound openingsFit sessionsFit pairFits covers authorised mayActivate effective upd has all any each some subset overlap bit pack _with_ _without_ if_then_else_ _and_ _or_ _implies_ class brands dominates
-shown = (refl, (refl, (refl, (refl, (refl, (refl, (refl, (refl, (refl, (refl, (refl, (refl, (refl, (refl, (refl, (refl, (refl, (refl, (refl, (refl, (refl, (refl, (refl, tt)))))))))))))))))))))))
+shown = (refl, (refl, (refl, (refl, (refl, (refl, (refl, (refl, (refl, (refl, (refl, (refl, (refl, (refl, (refl, (refl, (refl, (refl, (refl, (refl, (refl, (refl, (refl, (refl, tt))))))))))))))))))))))))
 
 -- ---- on the table after the set-up
 

@@ -1,5 +1,5 @@
 -- The starred bench cases of 01, A to I, as a single table, and the claim that every row of it is met in sequence.
-use Rattle.bits.specs.Words.{ℕ, _≡_, Bool, true, not, List, [], _∷_, eqb, length, _implies_, if_then_else_, all}
+use Rattle.bits.specs.Words.{ℕ, _≡_, Bool, true, not, List, [], _∷_, eqb, leb, length, _implies_, if_then_else_, all}
 use Rattle.table.specs.Table.{tableLength, tabulate}
 use Rattle.roles.specs.Request.{Ask, ask}
 use Rattle.roles.specs.Guard.{roleStep}
@@ -52,7 +52,12 @@ starred =
     ∷ holds (not (dominates 18 17))
     ∷ holds (all 32 (λ a. dominates 31 a))
     ∷ holds (all 32 (λ a. dominates 0 a implies eqb a 0))
+    ∷ holds (dominates 0 0)
     ∷ []
+
+-- 01: a role request answered yes or no spends 1, a refusal 0
+unfoldable pub spentOn : ℕ → ℕ
+spentOn answer = if leb answer 1 then 1 else 0
 
 -- every row is met, in sequence from the table on
 abbrev pub Met : List ℕ → List Row → Type 0

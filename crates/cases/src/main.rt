@@ -1,8 +1,10 @@
 // Runs the bench cases of the scope and the vectors of the sources through the compiled guard, and writes a row for each: its
 // number, its answer, and what it spent. Rows from 101: A to H and J; from 201: vector A of source 000; from 301: the scope's
 // label listing, and label 32; from 401: labels that are easily confused; from 501: dominance; from 601: wrong lengths and values.
+ghost use mathlib.Core.Path.{_≡_};
 ghost use Prim.Native.Nat.{_≤_};
 ghost use lib.ListN.{length};
+ghost use Rattle.cases.specs.Cases.{spentOn};
 use libc::STDOUT_FILENO;
 use machine::Label;
 use table::layout::WORDS;
@@ -337,20 +339,30 @@ fn show(number: u64, answer: u64, spent: u64) -> bool {
     io::write_all(STDOUT_FILENO, &out[..k])
 }
 
+// What a role request with this answer spends.
+fn spent_on(answer: u64) -> u64
+    ensures { λ r. ⌜ r ≡ spentOn answer ⌝ }
+{
+    if 1 < answer {
+        return 0;
+    }
+    1
+}
+
 // Role requests in sequence.
 fn play_roles(table: &mut [u64], words: &[u64], first: u64) -> bool
     requires { ⌜ (first ≤ 1000) × (length (now words) ≤ 1000) ⌝ }
 {
     for i in 0..words.len() / 4 {
         let at = 4 * i;
-        let answer = roles::request(
+        let answer = roles::number(roles::request(
             table,
             words[at],
             words[at + 1],
             words[at + 2],
             words[at + 3],
-        );
-        if !show(first + i as u64, roles::number(answer), 1) {
+        ));
+        if !show(first + i as u64, answer, spent_on(answer)) {
             return false;
         }
     }
@@ -477,7 +489,7 @@ fn dominance_cases() -> bool {
     if !compare(509, 0, 31) {
         return false;
     }
-    true
+    compare(510, 0, 0)
 }
 
 // Tables of 967 and 969 words, and label 32 in a set-up.

@@ -2,40 +2,61 @@
 use Prim.Native.Nat.{ℕ}
 use mathlib.Core.Path.{_≡_, refl, sym, ap, _∙_}
 use mathlib.Core.Bool.{Bool, true, false}
-use mathlib.Core.List.{List, [], _∷_}
+use mathlib.Core.List.{List}
 use native.Mathlib.Omega.{arith}
-use lib.ListN.{length, getD, set}
+use lib.ListN.{length, getD}
 use lib.Seq.{ext-getD}
-use Rattle.bits.proofs.Truth.{past, stopped}
+use borrow.Author.Tests.{eq-eqb, ne-eqb}
+use Rattle.bits.proofs.Truth.{past, stopped, if-true, if-false, by-truth}
 use Rattle.table.specs.Sound.{sound}
 use Rattle.table.specs.Table.{isTable}
 use Rattle.table.specs.Reading.{state}
 use Rattle.table.specs.Answers.{overlay, effectivePermissions}
 use Rattle.table.proofs.Answers.{length-overlay, overlay-at}
 use Rattle.table.proofs.Tabulate.{length-tabulate}
-use Rattle.sheetguard.specs.Reading.{Told, told, read}
+use Rattle.sheetguard.specs.Reading.{told, readable, read}
 
--- the two clauses of a contract
-pub two : {n : ℕ} {out : List ℕ} {t : Told} → t ≡ told n out → (n ≡ t .answer) × (out ≡ t .words)
-unfolding told
-two e = (sym (ap (λ (t : Told). t .answer) e), sym (ap (λ (t : Told). t .words) e))
+-- ---- the refusals
 
-module _ (t : List ℕ) (known : Bool) (out words : List ℕ) where
-  pub read-short : isTable t ≡ false → read t known out words ≡ told 12 out
-  unfolding read
-  read-short i = stopped _ _ i
+module _ (t : List ℕ) where
+  pub readable-short : (known : Bool) → isTable t ≡ false → readable t known ≡ 12
+  unfolding readable
+  readable-short known i = stopped _ _ i
 
-  pub read-unsound : isTable t ≡ true → sound (state t) ≡ false → read t known out words ≡ told 13 out
-  unfolding read
-  read-unsound i s = past _ _ i ∙ stopped _ _ s
+  pub readable-unsound : (known : Bool) → isTable t ≡ true → sound (state t) ≡ false → readable t known ≡ 13
+  unfolding readable
+  readable-unsound known i s = past _ _ i ∙ stopped _ _ s
 
-  pub read-unknown : isTable t ≡ true → sound (state t) ≡ true → known ≡ false → read t known out words ≡ told 16 out
-  unfolding read
-  read-unknown i s k = past _ _ i ∙ past _ _ s ∙ stopped _ _ k
+  -- of a sound table it hangs on what is asked for
+  pub readable-unknown : isTable t ≡ true → sound (state t) ≡ true → readable t false ≡ 16
+  unfolding readable
+  readable-unknown i s = past _ _ i ∙ past _ _ s ∙ stopped _ _ refl
 
-  pub read-known : isTable t ≡ true → sound (state t) ≡ true → known ≡ true → read t known out words ≡ told 1 words
-  unfolding read
-  read-known i s k = past _ _ i ∙ past _ _ s ∙ past _ _ k
+  pub readable-known : isTable t ≡ true → sound (state t) ≡ true → readable t true ≡ 1
+  unfolding readable
+  readable-known i s = past _ _ i ∙ past _ _ s ∙ past _ _ refl
+
+  -- 1 is answered only where what is asked for is there
+  pub known-asked : (known : Bool) → readable t known ≡ 1 → known ≡ true
+  known-asked true e = refl
+  known-asked false e =
+      by-truth (isTable t)
+      (λ i. by-truth (sound (state t))
+      (λ s. absurd (let h = readable-unknown i s in omega (arith, e, h)))
+      (λ s. absurd (let h = readable-unsound false i s in omega (arith, e, h))))
+      (λ i. absurd (let h = readable-short false i in omega (arith, e, h)))
+
+-- ---- the words
+
+-- the number n of an answer that says whether the words can be read
+module _ (t : List ℕ) (known : Bool) (out words : List ℕ) {n : ℕ} (e : n ≡ readable t known) where
+  pub read-refused : (n ≡ 1 → ⊥) → (n ≡ read t known out words .answer) × (out ≡ read t known out words .words)
+  unfolding read told
+  read-refused d = (e, sym (if-false words out (ne-eqb (readable t known) 1 (λ h. d (e ∙ h)))))
+
+  pub read-given : {written : List ℕ} → n ≡ 1 → written ≡ words → (n ≡ read t known out words .answer) × (written ≡ read t known out words .words)
+  unfolding read told
+  read-given h w = (e, w ∙ sym (if-true words out (eq-eqb (readable t known) 1 (sym e ∙ h))))
 
 -- words laid over as many
 pub overlay-whole : (t words : List ℕ) → length t ≡ length words → overlay t 0 words ≡ words
@@ -46,15 +67,6 @@ overlay-whole t words e =
     overlay-at t 0 words i (omega arith) (omega arith) (omega arith) ∙ ap (λ (k : ℕ). getD words k 0) (omega arith))
 
 -- the effective permissions are eight words
-eight : (t : List ℕ) (s : ℕ) → length (effectivePermissions t s) ≡ 8
+pub eight : (t : List ℕ) (s : ℕ) → length (effectivePermissions t s) ≡ 8
 unfolding effectivePermissions
 eight t s = length-tabulate 8 _
-
-pub masks-written : (out t : List ℕ) (s : ℕ) → length out ≡ 8 → overlay out 0 (effectivePermissions t s) ≡ effectivePermissions t s
-masks-written out t s e = overlay-whole out (effectivePermissions t s) (e ∙ sym (eight t s))
-
--- one word written into a list of one
-pub one-written : (out : List ℕ) (w : ℕ) → length out ≡ 1 → set out 0 w ≡ w ∷ []
-one-written [] w e = absurd (omega arith)
-one-written (x ∷ []) w e = refl
-one-written (x ∷ y ∷ rest) w e = absurd (omega arith)

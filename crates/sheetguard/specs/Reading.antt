@@ -13,13 +13,17 @@ pub record Told : Type 0 where
 unfoldable pub told : ℕ → List ℕ → Told
 told n words = record { answer = n; words = words }
 
--- the words asked for, of a sound table, where the session or user is there and the lent words have their number
+-- refusals 12, 13 and 16 in order, then 1: the session or user is there, and the lent words have their number
+unfoldable pub readable : List ℕ → Bool → ℕ
+readable t known =
+    if not (isTable t) then 12 else
+    if not (sound (state t)) then 13 else
+    if not known then 16 else
+    1
+
+-- the words asked for; at a refusal the lent words stay
 unfoldable pub read : List ℕ → Bool → List ℕ → List ℕ → Told
-read t known out words =
-    if not (isTable t) then told 12 out else
-    if not (sound (state t)) then told 13 out else
-    if not known then told 16 out else
-    told 1 words
+read t known out words = told (readable t known) (if eqb (readable t known) 1 then words else out)
 
 -- the effective permissions of session s in eight words, one a mode
 unfoldable pub readPermissions : List ℕ → ℕ → List ℕ → Told

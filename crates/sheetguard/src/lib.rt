@@ -1,13 +1,18 @@
 // The guard for programs in C and Rust: each function under its plain name, with the same equations.
+use roles::Answer;
+use roles::Refusal;
 use table::layout::WORDS;
 ghost use mathlib.Core.Path.{_≡_};
+ghost use lib.Dec.{eqb, ltb};
+ghost use Rattle.bits.specs.Words.{_and_};
 ghost use Rattle.roles.specs.Request.{ask};
 ghost use Rattle.roles.specs.Guard.{roleStep};
+ghost use Rattle.roles.specs.Answer.{numberOf};
 ghost use Rattle.setup.specs.SetUp.{roleSetUp};
 ghost use Rattle.alike.specs.Likeness.{likeness};
 ghost use Rattle.image.specs.SetUp.{labelSetUp};
 ghost use Rattle.labels.specs.Guard.{labelStep};
-ghost use Rattle.sheetguard.specs.Reading.{readPermissions, readRoles};
+ghost use Rattle.sheetguard.specs.Reading.{readable, readPermissions, readRoles};
 
 // The role set-up: 64 words of direct juniors, 8 of permissions.
 #[no_mangle]
@@ -74,6 +79,32 @@ pub extern "C" fn sheetguard_label_request(
     roles::number(answer)
 }
 
+// Whether there is a user or session i below a limit, and as many words are lent as are to be written.
+fn is_known(i: u64, limit: u64, words: usize, wanted: usize) -> bool
+    ensures { λ r. ⌜ r ≡ (ltb i limit and eqb words wanted) ⌝ }
+{
+    if limit <= i {
+        return false;
+    }
+    words == wanted
+}
+
+// Whether the words asked for can be read off the table: yes, or the first refusal that fits.
+fn readable(table: &[u64], known: bool) -> Answer
+    ensures { λ r. ⌜ numberOf r ≡ readable (now (table .entry)) known ⌝ }
+{
+    if table.len() != WORDS {
+        return Answer::Refused(Refusal::WrongLength);
+    }
+    if !sound::is_sound(table) {
+        return Answer::Refused(Refusal::Unsound);
+    }
+    if !known {
+        return Answer::Refused(Refusal::BadArgument);
+    }
+    Answer::Yes
+}
+
 // The effective permissions of a session, into eight words.
 #[no_mangle]
 pub extern "C" fn sheetguard_effective_permissions(
@@ -84,24 +115,16 @@ pub extern "C" fn sheetguard_effective_permissions(
     ensures answer { λ n. ⌜ n ≡ readPermissions (now (table .entry)) session (now (masks .entry)) .answer ⌝ }
     ensures words { λ n. ⌜ now (masks .exit) ≡ readPermissions (now (table .entry)) session (now (masks .entry)) .words ⌝ }
 {
-    if table.len() != WORDS {
-        return 12;
-    }
-    if !sound::is_sound(table) {
-        return 13;
-    }
-    if 31 < session {
-        return 16;
-    }
-    if masks.len() != 8 {
-        return 16;
+    let n = roles::number(readable(table, is_known(session, 32, masks.len(), 8)));
+    if n != 1 {
+        return n;
     }
     table::overlay(
         masks,
         0,
         &table::effective_permissions(table, session as usize),
     );
-    1
+    n
 }
 
 // The authorised roles of a user, into one word.
@@ -110,18 +133,10 @@ pub extern "C" fn sheetguard_authorised_roles(table: &[u64], user: u64, roles: &
     ensures answer { λ n. ⌜ n ≡ readRoles (now (table .entry)) user (now (roles .entry)) .answer ⌝ }
     ensures words { λ n. ⌜ now (roles .exit) ≡ readRoles (now (table .entry)) user (now (roles .entry)) .words ⌝ }
 {
-    if table.len() != WORDS {
-        return 12;
+    let n = roles::number(readable(table, is_known(user, 64, roles.len(), 1)));
+    if n != 1 {
+        return n;
     }
-    if !sound::is_sound(table) {
-        return 13;
-    }
-    if 63 < user {
-        return 16;
-    }
-    if roles.len() != 1 {
-        return 16;
-    }
-    roles[0] = table::authorised_roles(table, user as usize);
-    1
+    table::overlay(roles, 0, &[table::authorised_roles(table, user as usize)]);
+    n
 }

@@ -1,63 +1,42 @@
 -- `sheetguard_authorised_roles` meets its contract: the refusals in their order, then the words. Assumes nothing.
 use borrow.Author.Needs.{needs}
-use Prim.Native.Nat.{ℕ, suc-le-suc}
+use Prim.Native.Nat.{ℕ}
 use mathlib.Core.Path.{sym, ap, _∙_}
 use mathlib.Core.List.{[], _∷_}
-use borrow.Author.Tests.{eq-eqb, ne-eqb, lt-ltb, le-ltb}
-use Rattle.bits.proofs.Truth.{confirmed, refuted, and-intro, false-and, and-false}
-use Rattle.table.proofs.Table.{is-table, not-table}
-use Rattle.sound.proofs.Answers.{sound-state, unsound-state}
-use Rattle.sheetguard.specs.Reading.{told, readRoles}
-use Rattle.sheetguard.proofs.Telling.{two, read-short, read-unsound, read-unknown, read-known, one-written}
+use borrow.Author.Tests.{eqb-true}
+use Rattle.bits.proofs.Truth.{and-right}
+use Rattle.sheetguard.specs.Reading.{readable, readRoles}
+use Rattle.sheetguard.proofs.Telling.{known-asked, read-refused, read-given, overlay-whole}
 use Rattle.sheetguard.proofs.sheetguard_authorised_roles.Statement.{statement}
 use Rattle.sheetguard.proofs.sheetguard_authorised_roles.Tie as tie
 
 returns : tie.Need-returns
 unfolding readRoles
-returns c = two (read-short _ _ _ _ (not-table _ (c .if1 .taken)))
+returns c =
+    let said = c .before in
+    read-refused _ _ _ _ (said .number .ensures ∙ said .before .readable .ensures ∙ ap (readable _) (said .before .before .is-known .ensures)) (c .if1 .taken)
 
 returns-2 : tie.Need-returns-2
 unfolding readRoles
 returns-2 c =
-    let e = c .before .before .if1 .left in
-    two (read-unsound _ _ _ _ (is-table _ e) (unsound-state _ e (refuted (c .before .is-sound .ensures) (c .if2 .taken))))
-
-returns-3 : tie.Need-returns-3
-unfolding readRoles
-returns-3 c =
-    let seen = c .before in
-    two (read-unknown _ _ _ _ (is-table _ (seen .before .before .if1 .left)) (sound-state _ (confirmed (seen .before .is-sound .ensures) (seen .if2 .left)))
-    (false-and _ (le-ltb _ 64 (c .if3 .taken))))
-
-returns-4 : tie.Need-returns-4
-unfolding readRoles
-returns-4 c =
-    let seen = c .before .before in
-    two (read-unknown _ _ _ _ (is-table _ (seen .before .before .if1 .left)) (sound-state _ (confirmed (seen .before .is-sound .ensures) (seen .if2 .left)))
-    (and-false _ (ne-eqb _ 1 (c .if4 .taken))))
-
-returns-5 : tie.Need-returns-5
-unfolding readRoles
-returns-5 c =
-    let long = c .before in
-    let known = long .before in
-    let seen = known .before in
-    let a = seen .before .before .before .before .before .args in
-    two
-    (read-known _ _ (a .roles .now) _ (is-table _ (seen .before .before .if1 .left)) (sound-state _ (confirmed (seen .before .is-sound .ensures) (seen .if2 .left)))
-    (and-intro (lt-ltb _ 64 (suc-le-suc (known .if3 .left))) (eq-eqb _ 1 (long .if4 .left)))
-    ∙ ap (told 1) (sym (one-written (a .roles .now) _ (long .if4 .left) ∙ ap (λ (w : ℕ). w ∷ []) (c .authorised-roles .ensures))))
+    let laid = c .before .before in
+    let found = laid .before .before in
+    let yes = found .before .before in
+    let said = yes .before in
+    let e = said .number .ensures ∙ said .before .readable .ensures ∙ ap (readable _) (said .before .before .is-known .ensures) in
+    let long = eqb-true _ _ (and-right _ _ (known-asked _ _ (sym e ∙ yes .if1 .left))) in
+    read-given _ _ _ _ e (yes .if1 .left) (laid .overlay .ensures ∙ overlay-whole _ _ long ∙ ap (λ (w : ℕ). w ∷ []) (found .authorised-roles .ensures))
 
 pub sheetguard-authorised-roles-spec : {M : Type 1} → statement M
 sheetguard-authorised-roles-spec =
     tie.close
     (tie.spec
+    (λ c κs. search needs)
+    (λ c κs. search needs)
+    (λ c κs. search needs)
     returns
     (λ c κs. search needs)
-    returns-2
-    returns-3
-    returns-4
+    (λ c. search needs)
     (λ c κs. search needs)
     (λ c. search needs)
-    (λ c. search needs)
-    returns-5)
+    returns-2)
