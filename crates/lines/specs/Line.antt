@@ -1,8 +1,9 @@
 -- What a line of the transcript program is: refusal 10 of 01 and its section on the program. A line is its bytes without
 -- the newline. Whether the word belongs to the mode, and takes as many fields, is the transcript's to say.
+use Prim.Native.Char.{code}
 use Rattle.bits.specs.Words.{ℕ, _+_, _-_, _*_, _^_, Bool, false, List, [], _∷_, eqb, leb, ltb, length, _and_, if_then_else_}
 use mathlib.Core.Option.{Option, some, none}
-use Rattle.lines.specs.Bytes.{every, empty, same}
+use Rattle.lines.specs.Bytes.{ascii, tab, every, empty, same}
 use Rattle.lines.specs.declared.Word.{Word}
 use Rattle.lines.specs.declared.Word.the-variants.{Roles, Lattice, Above, Permit, Clear, Label, Run, Open, Close, Start, End, Activate, Drop, Assign, Deassign, Grant, Revoke, Reclear}
 use Rattle.lines.specs.declared.Spelled.{Spelled}
@@ -15,12 +16,12 @@ use Rattle.lines.specs.declared.Line.the-variants.{Read, Refused}
 -- the bytes before the first tab
 unfoldable pub first : List ℕ → List ℕ
 first [] = []
-first (b ∷ l) = if eqb b 9 then [] else b ∷ first l
+first (b ∷ l) = if eqb b tab then [] else b ∷ first l
 
 -- the pieces behind the first tab, parted by the other tabs
 unfoldable pub others : List ℕ → List (List ℕ)
 others [] = []
-others (b ∷ l) = if eqb b 9 then first l ∷ others l else others l
+others (b ∷ l) = if eqb b tab then first l ∷ others l else others l
 
 -- a word and its letters
 pub record Entry : Type 0 where
@@ -33,24 +34,24 @@ entry l w = record { letters = l; word = w }
 -- the words of both modes
 abbrev pub words : List Entry
 words =
-    entry (114 ∷ 111 ∷ 108 ∷ 101 ∷ 115 ∷ []) Roles ∷
-    entry (108 ∷ 97 ∷ 116 ∷ 116 ∷ 105 ∷ 99 ∷ 101 ∷ []) Lattice ∷
-    entry (97 ∷ 98 ∷ 111 ∷ 118 ∷ 101 ∷ []) Above ∷
-    entry (112 ∷ 101 ∷ 114 ∷ 109 ∷ 105 ∷ 116 ∷ []) Permit ∷
-    entry (99 ∷ 108 ∷ 101 ∷ 97 ∷ 114 ∷ []) Clear ∷
-    entry (108 ∷ 97 ∷ 98 ∷ 101 ∷ 108 ∷ []) Label ∷
-    entry (114 ∷ 117 ∷ 110 ∷ []) Run ∷
-    entry (111 ∷ 112 ∷ 101 ∷ 110 ∷ []) Open ∷
-    entry (99 ∷ 108 ∷ 111 ∷ 115 ∷ 101 ∷ []) Close ∷
-    entry (115 ∷ 116 ∷ 97 ∷ 114 ∷ 116 ∷ []) Start ∷
-    entry (101 ∷ 110 ∷ 100 ∷ []) End ∷
-    entry (97 ∷ 99 ∷ 116 ∷ 105 ∷ 118 ∷ 97 ∷ 116 ∷ 101 ∷ []) Activate ∷
-    entry (100 ∷ 114 ∷ 111 ∷ 112 ∷ []) Drop ∷
-    entry (97 ∷ 115 ∷ 115 ∷ 105 ∷ 103 ∷ 110 ∷ []) Assign ∷
-    entry (100 ∷ 101 ∷ 97 ∷ 115 ∷ 115 ∷ 105 ∷ 103 ∷ 110 ∷ []) Deassign ∷
-    entry (103 ∷ 114 ∷ 97 ∷ 110 ∷ 116 ∷ []) Grant ∷
-    entry (114 ∷ 101 ∷ 118 ∷ 111 ∷ 107 ∷ 101 ∷ []) Revoke ∷
-    entry (114 ∷ 101 ∷ 99 ∷ 108 ∷ 101 ∷ 97 ∷ 114 ∷ []) Reclear ∷
+    entry (ascii "roles") Roles ∷
+    entry (ascii "lattice") Lattice ∷
+    entry (ascii "above") Above ∷
+    entry (ascii "permit") Permit ∷
+    entry (ascii "clear") Clear ∷
+    entry (ascii "label") Label ∷
+    entry (ascii "run") Run ∷
+    entry (ascii "open") Open ∷
+    entry (ascii "close") Close ∷
+    entry (ascii "start") Start ∷
+    entry (ascii "end") End ∷
+    entry (ascii "activate") Activate ∷
+    entry (ascii "drop") Drop ∷
+    entry (ascii "assign") Assign ∷
+    entry (ascii "deassign") Deassign ∷
+    entry (ascii "grant") Grant ∷
+    entry (ascii "revoke") Revoke ∷
+    entry (ascii "reclear") Reclear ∷
     []
 
 -- the word of a list that has these letters
@@ -64,17 +65,17 @@ spelled p = find words p
 
 -- 0 to 9
 abbrev pub digit : ℕ → Bool
-digit b = leb 48 b and leb b 57
+digit b = leb (code "0") b and leb b (code "9")
 
 -- what digits are worth behind others that are worth v
 unfoldable pub worth : ℕ → List ℕ → ℕ
 worth v [] = v
-worth v (b ∷ l) = worth (v * 10 + (b - 48)) l
+worth v (b ∷ l) = worth (v * 10 + (b - code "0")) l
 
 -- digits: behind a first 0 nothing, behind another first digit only digits
 unfoldable pub plain : List ℕ → Bool
 plain [] = false
-plain (b ∷ l) = digit b and (if eqb b 48 then empty l else every digit l)
+plain (b ∷ l) = digit b and (if eqb b (code "0") then empty l else every digit l)
 
 -- the number that a piece is: below 2^64
 unfoldable pub number : List ℕ → Option ℕ

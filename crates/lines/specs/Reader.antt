@@ -1,7 +1,9 @@
 -- The reader, a byte at a time: where it stands after each, and what it makes of the line at its end. Claims says that
 -- this is what Line says of the whole line, however it is cut.
+use Prim.Native.Char.{code}
 use Rattle.bits.specs.Words.{ℕ, _+_, _-_, _*_, _^_, Bool, false, List, [], _∷_, eqb, leb, ltb, _and_, if_then_else_}
 use mathlib.Core.Option.{Option, some, none}
+use Rattle.lines.specs.Bytes.{tab, newline}
 use Rattle.lines.specs.Line.{Entry, words, digit, behind}
 use Rattle.lines.specs.declared.Word.{Word}
 use Rattle.lines.specs.declared.Spelled.{Spelled}
@@ -17,7 +19,7 @@ use Rattle.lines.specs.declared.Fed.the-variants.{Whole, Used}
 
 -- a to z
 abbrev pub letter : ℕ → Bool
-letter b = leb 97 b and leb b 122
+letter b = leb (code "a") b and leb b (code "z")
 
 -- letters as one number, a byte each, behind those of x
 abbrev pub packed : ℕ → List ℕ → ℕ
@@ -50,17 +52,17 @@ pushed w fs n = tabbed w (behind fs n)
 -- one byte further on
 unfoldable pub stepOf : Reader → ℕ → Reader
 stepOf (Letters x) b =
-    if eqb b 9 then begun (wordOf x) else
+    if eqb b tab then begun (wordOf x) else
     if letter b and ltb (x * 256 + b) (2 ^ 64) then Letters (x * 256 + b) else
     Broken
 stepOf (Tab w fs) b =
-    if eqb b 48 then Nought w fs else
-    if digit b then Digits w fs (b - 48) else
+    if eqb b (code "0") then Nought w fs else
+    if digit b then Digits w fs (b - code "0") else
     Broken
-stepOf (Nought w fs) b = if eqb b 9 then pushed w fs 0 else Broken
+stepOf (Nought w fs) b = if eqb b tab then pushed w fs 0 else Broken
 stepOf (Digits w fs v) b =
-    if eqb b 9 then pushed w fs v else
-    if digit b and ltb (v * 10 + (b - 48)) (2 ^ 64) then Digits w fs (v * 10 + (b - 48)) else
+    if eqb b tab then pushed w fs v else
+    if digit b and ltb (v * 10 + (b - code "0")) (2 ^ 64) then Digits w fs (v * 10 + (b - code "0")) else
     Broken
 stepOf Broken b = Broken
 
@@ -74,7 +76,7 @@ ended Broken = Refused
 
 -- what the line is at its newline, which ends a piece as a tab does
 unfoldable pub finished : Reader → Line
-finished s = ended (stepOf s 9)
+finished s = ended (stepOf s tab)
 
 -- several bytes further on
 unfoldable pub steps : Reader → List ℕ → Reader
@@ -84,7 +86,7 @@ steps s (b ∷ l) = steps (stepOf s b) l
 -- bytes from place at of a block: the line is whole at the first newline, or the block is used up
 unfoldable pub fed : Reader → List ℕ → ℕ → Fed
 fed s [] at = Used s
-fed s (b ∷ l) at = if eqb b 10 then Whole s (at + 1) else fed (stepOf s b) l (at + 1)
+fed s (b ∷ l) at = if eqb b newline then Whole s (at + 1) else fed (stepOf s b) l (at + 1)
 
 -- pieces of a line, in order
 unfoldable pub pieced : Reader → List (List ℕ) → Reader

@@ -65,6 +65,7 @@ pub enum Fed {
     Used(Reader),
 }
 
+// The word whose letters are packed in a number, a byte each and the first one highest: `run` is (114 * 256 + 117) * 256 + 110.
 fn word_of(letters: u64) -> Spelled
     ensures { λ r. ⌜ r ≡ wordOf letters ⌝ }
 {
@@ -103,6 +104,7 @@ fn pushed_on(word: Word, fields: Fields, n: u64) -> Reader
     }
 }
 
+// A byte as a word.
 fn wide(b: u8) -> u64
     ensures { λ r. ⌜ r ≡ b ⌝ }
 {

@@ -1,11 +1,13 @@
 -- The transcript's output as bytes: 01, "prints a header and a line for each: line number from 1, answer, spent".
+use Prim.Native.Char.{code}
 use Rattle.bits.specs.Words.{ℕ, zero, suc, _+_, _/_, _%_, _≡_, List, [], _∷_, _++_, leb, length, if_then_else_}
 use lib.Seq.{sets}
+use Rattle.lines.specs.Bytes.{ascii, tab, newline}
 
 -- the decimal digits of n, the last k at most: one digit, or those of n / 10 and one more
 unfoldable pub text : ℕ → ℕ → List ℕ
 text zero n = []
-text (suc k) n = if leb n 9 then (48 + n) ∷ [] else text k (n / 10) ++ ((48 + n % 10) ∷ [])
+text (suc k) n = if leb n 9 then (code "0" + n) ∷ [] else text k (n / 10) ++ ((code "0" + n % 10) ∷ [])
 
 -- a number below 2^64 has 20 digits at most
 unfoldable pub decimal : ℕ → List ℕ
@@ -17,15 +19,15 @@ column n behind = decimal n ++ (behind ∷ [])
 
 -- number, answer and spent, parted by tabs, with a newline
 unfoldable pub row : ℕ → ℕ → ℕ → List ℕ
-row number answer spent = column number 9 ++ column answer 9 ++ column spent 10
+row number answer spent = column number tab ++ column answer tab ++ column spent newline
 
 -- the longest row: three numbers of 20 digits, and a byte behind each
 abbrev pub rowRoom : ℕ
 rowRoom = 63
 
--- `line`, `answer`, `spent`, parted by tabs, with a newline
+-- the first line
 unfoldable pub header : List ℕ
-header = 108 ∷ 105 ∷ 110 ∷ 101 ∷ 9 ∷ 97 ∷ 110 ∷ 115 ∷ 119 ∷ 101 ∷ 114 ∷ 9 ∷ 115 ∷ 112 ∷ 101 ∷ 110 ∷ 116 ∷ 10 ∷ []
+header = ascii "line\tanswer\tspent\n"
 
 -- bytes where out has room for a row from a place on, else none
 unfoldable pub fitting : List ℕ → ℕ → List ℕ → List ℕ
