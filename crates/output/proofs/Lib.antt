@@ -1,2 +1,4 @@
--- The crate's laws.
+-- The crate's laws, in reading order.
 pub mod Writing
+pub mod Reading
+pub mod Claims

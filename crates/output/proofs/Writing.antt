@@ -3,7 +3,7 @@ use Prim.Native.Nat.{ℕ, zero, suc, _+_, _-_, _/_, _%_, _≤_, _<_}
 use mathlib.Core.Path.{_≡_, refl, sym, ap, _∙_}
 use mathlib.Core.Bool.{Bool, true, false}
 use mathlib.Core.List.{List, [], _∷_, _++_}
-use native.Mathlib.Nat.{add-zero, add-suc, suc-add}
+use native.Mathlib.Nat.{add-zero, add-suc, suc-add, le-trans}
 use native.Mathlib.Numerals.{sub-one}
 use native.Mathlib.Omega.{arith}
 use lib.Dec.{leb}
@@ -56,7 +56,7 @@ length-text (suc k) n = go (leb n 9) (length-text k (n / 10))
 
 pub length-decimal : (n : ℕ) → length (decimal n) ≤ 20
 unfolding decimal
-length-decimal n = length-text 20 n
+length-decimal n = le-trans (length-text _ n) (omega arith)
 
 pub length-column : (n b : ℕ) → length (column n b) ≤ 21
 unfolding column
