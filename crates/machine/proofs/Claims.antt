@@ -1,5 +1,5 @@
 -- The claims of specs/Claims.antt; the wall stands in Wall. Assumes nothing.
-use mathlib.Core.Path.{_≡_, refl}
+use mathlib.Core.Path.{_≡_, refl, ap, _∙_}
 use mathlib.Core.Bool.{true}
 use Rattle.bits.specs.Words.{_and_, _or_, _implies_, has, all, each, subset}
 use Rattle.bits.proofs.Below.{all-elim}
@@ -25,5 +25,5 @@ case-I = record {
   not-17-18 = refl;
   not-18-17 = refl;
   top = λ a h. all-elim (λ a. dominates 31 a) 32 top-row a h;
-  bottom = λ a h k. dominates-antisym a 0 (dominates-bottom a) k;
+  bottom = λ a h. (dominates-antisym a 0 (dominates-bottom a), λ e. ap (dominates 0) e ∙ dominates-refl 0);
 }

@@ -1,4 +1,5 @@
 -- What is claimed of labels and of the machine, each as the answer to a question. proofs/Claims.antt proves them.
+use mathlib.Core.Logic.{_↔_}
 use Rattle.bits.specs.Words.{ℕ, _<_, _≡_, true, false, List}
 use Rattle.roles.specs.Request.{Ask}
 use Rattle.machine.specs.Label.{dominates}
@@ -16,7 +17,7 @@ pub record CaseI : Type 0 where
   pub not-17-18 : dominates 17 18 ≡ false
   pub not-18-17 : dominates 18 17 ≡ false
   pub top : (a : ℕ) → a < 32 → dominates 31 a ≡ true
-  pub bottom : (a : ℕ) → a < 32 → dominates 0 a ≡ true → a ≡ 0
+  pub bottom : (a : ℕ) → a < 32 → dominates 0 a ≡ true ↔ a ≡ 0
 
 -- Does the machine keep rival columns apart? From any state and under any list of requests no column is carried into one
 -- whose label does not dominate its own.
