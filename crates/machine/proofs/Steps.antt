@@ -13,7 +13,7 @@ use Rattle.roles.proofs.Serving.{decide-yes, decide-no}
 use Rattle.roles.proofs.Codes.{within-elim}
 use Rattle.roles.proofs.Requests.{within-intro}
 use Rattle.machine.specs.Label.{dominates}
-use Rattle.machine.specs.Machine.{Machine, idle, at, isIdle, mayOpen, fits, withHeld, withSeat, withClearance, Request, opening, closing, starting, ending, reclearing, isCode, limits, inRange, decode, allowed, next, figure, act, step}
+use Rattle.machine.specs.Machine.{Machine, idle, at, isIdle, mayOpen, fits, withSeat, withOpenings, withHeld, withClearance, Request, opening, closing, starting, ending, reclearing, isCode, limits, inRange, decode, allowed, next, figure, act, step}
 
 -- ---- codes and arguments
 
@@ -157,7 +157,7 @@ module _ (m : Machine) where
   unfolding act allowed figure next
   act-starting s u y = refl
 
-  pub act-ending : (s : ℕ) → act m (ending s) ≡ decide (not (isIdle (m .seat s))) 1 1 (withSeat m s idle) m
+  pub act-ending : (s : ℕ) → act m (ending s) ≡ decide (not (isIdle (m .seat s))) 1 1 (withOpenings (withSeat m s idle) s (λ o x. false)) m
   unfolding act allowed figure next
   act-ending s = refl
 

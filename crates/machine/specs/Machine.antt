@@ -67,18 +67,15 @@ allowed m (starting s u y) = isIdle (m .seat s) and dominates (m .clearance u) y
 allowed m (ending s) = not (isIdle (m .seat s))
 allowed m (reclearing u c) = all 32 (λ s. fits u c (m .seat s))
 
--- s holds o in mode x, or no longer does; a session with nothing open; a user with another clearance
-abbrev pub withHeld : Machine → ℕ → ℕ → ℕ → Bool → Machine
-withHeld m s o x b = record {
-  clearance = m .clearance;
-  label = m .label;
-  seat = m .seat;
-  held = λ p q y. if eqb p s and eqb q o and eqb y x then b else m .held p q y;
-}
-
+-- session s in another seat; with other openings; with o held in mode x, or no longer; user u with another clearance
 abbrev pub withSeat : Machine → ℕ → Seat → Machine
-withSeat m s k =
-    record { clearance = m .clearance; label = m .label; seat = upd (m .seat) s k; held = upd (m .held) s (λ o x. false) }
+withSeat m s k = record { clearance = m .clearance; label = m .label; seat = upd (m .seat) s k; held = m .held }
+
+abbrev pub withOpenings : Machine → ℕ → (ℕ → ℕ → Bool) → Machine
+withOpenings m s f = record { clearance = m .clearance; label = m .label; seat = m .seat; held = upd (m .held) s f }
+
+abbrev pub withHeld : Machine → ℕ → ℕ → ℕ → Bool → Machine
+withHeld m s o x b = withOpenings m s (λ q y. if eqb q o and eqb y x then b else m .held s q y)
 
 abbrev pub withClearance : Machine → ℕ → ℕ → Machine
 withClearance m u c = record { clearance = upd (m .clearance) u c; label = m .label; seat = m .seat; held = m .held }
@@ -88,7 +85,7 @@ unfoldable pub next : Machine → Request → Machine
 next m (opening s o x) = withHeld m s o x true
 next m (closing s o x) = withHeld m s o x false
 next m (starting s u y) = withSeat m s (at u y)
-next m (ending s) = withSeat m s idle
+next m (ending s) = withOpenings (withSeat m s idle) s (λ o x. false)
 next m (reclearing u c) = withClearance m u c
 
 -- the figure that goes with yes or no

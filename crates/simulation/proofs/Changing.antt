@@ -1,7 +1,7 @@
 -- The states that the role requests of a label request lead to, beside the images of the machine's next states. Assumes
 -- nothing.
 use Prim.Native.Nat.{ℕ, _^_, _<_}
-use mathlib.Core.Path.{_≡_, refl, sym, ap, ap₂, subst, _∙_}
+use mathlib.Core.Path.{_≡_, refl, sym, ap, subst, _∙_}
 use mathlib.Core.Bool.{Bool, true, false, not}
 use native.Mathlib.Omega.{arith}
 use lib.Dec.{eqb, ltb}
@@ -9,74 +9,76 @@ use borrow.Author.Tests.{eq-eqb, ne-eqb, eqb-true, eqb-false, lt-ltb}
 use Rattle.bits.specs.Words.{_and_, if_then_else_, upd, has, pack, _with_}
 use Rattle.bits.specs.Sets.{_without_}
 use Rattle.bits.proofs.Truth.{by-truth, same-truth, true-and, false-and, and-false, and-intro, if-true, if-false, false-or, not-intro}
-use Rattle.bits.proofs.Word.{has-with, has-without, pack-is, pack-cong, pack-none, with-lt, without-lt, same-members, with-elim, with-new, with-old, without-old, without-other, without-keeps}
-use Rattle.table.specs.State.{State}
-use Rattle.table.specs.Changes.{withAssigned, withHolds}
-use Rattle.table.proofs.Agree.{Agree, by-upd, upd-same, upd-other, upd-own, grid-same}
-use Rattle.machine.specs.Machine.{Machine, Seat, withHeld, withSeat, withClearance}
+use Rattle.bits.proofs.Word.{has-with, has-without, pack-is, pack-cong, with-lt, without-lt, same-members, with-elim, with-new, with-old, without-old, without-other, without-keeps}
+use Rattle.table.specs.Changes.{withAssigned, withOwner, withActive, withHolds}
+use Rattle.table.proofs.Agree.{Agree, agree-refl, agree-sym, agree-trans, agree-set-assigned, agree-set-owner, agree-set-active, agree-set-holds, agree-with-holds, agree-own-assigned, by-upd, upd-same, upd-other}
+use Rattle.machine.specs.Machine.{Machine, Seat, withSeat, withOpenings, withHeld, withClearance}
 use Rattle.image.specs.Image.{clearedRoles, seatOwner, seatRoles, shown}
 use Rattle.image.proofs.Roles.{cleared-lt, cleared-elim, cleared-own, cleared-write}
-use Rattle.image.proofs.Shown.{holds-is}
+use Rattle.image.proofs.Shown.{holds-is, assigned-is}
+
+-- a value put in before and after f, and a value put in twice
+upd-ap : {A B : Type 0} (f : A → B) (g : ℕ → A) (i : ℕ) (v : A) (j : ℕ) → upd (λ k. f (g k)) i (f v) j ≡ f (upd g i v j)
+upd-ap {A} f g i v j =
+    by-upd g i v (λ (x : A). upd (λ k. f (g k)) i (f v) j ≡ f x) j
+    (λ e. ap (upd (λ k. f (g k)) i (f v)) e ∙ upd-same (λ k. f (g k)) i (f v))
+    (upd-other (λ k. f (g k)) i (f v) j)
+
+pub upd-twice : (f : ℕ → ℕ) (i v w j : ℕ) → upd (upd f i v) i w j ≡ upd f i w j
+upd-twice f i v w j =
+    by-upd (upd f i v) i w (λ (n : ℕ). n ≡ upd f i w j) j
+    (λ e. sym (ap (upd f i w) e ∙ upd-same f i w))
+    (λ n. upd-other f i v j n ∙ sym (upd-other f i w j n))
+
+-- ---- the image of each change of the machine
+
+module _ (m : Machine) where
+  pub seat-agrees : (s : ℕ) (k : Seat) → Agree (withActive (withOwner (shown m) s (seatOwner k)) s (seatRoles k)) (shown (withSeat m s k))
+  unfolding shown
+  seat-agrees s k =
+      agree-set-active (agree-set-owner (agree-refl (shown m))
+      (λ p h. upd-ap seatOwner (m .seat) s k p))
+      (λ p h. upd-ap seatRoles (m .seat) s k p)
+
+  pub openings-agree : (s : ℕ) (f : ℕ → ℕ → Bool)
+      → Agree (withHolds (shown m) s (λ x. pack 64 (λ o. ltb x 2 and f o x))) (shown (withOpenings m s f))
+  unfolding shown
+  openings-agree s f =
+      agree-set-holds (agree-refl (shown m)) (λ p x h k.
+      ap (λ (w : ℕ → ℕ). w x) (upd-ap {B = ℕ → ℕ} (λ (g : ℕ → ℕ → Bool) y. pack 64 (λ o. ltb y 2 and g o y)) (m .held) s f p))
+
+  pub clearance-agrees : (u c : ℕ) → Agree (withAssigned (shown m) u (clearedRoles c)) (shown (withClearance m u c))
+  unfolding shown
+  clearance-agrees u c = agree-set-assigned (agree-refl (shown m)) (λ v h. upd-ap clearedRoles (m .clearance) u c v)
 
 -- ---- openings
 
 -- a word of openings in which o is a member or not, and the others are as they were
 module _ (m : Machine) (s o x : ℕ) (hx : x < 2) (b : Bool) (w : ℕ) (word : w < 2 ^ 64) (own : has w o ≡ b)
     (other : (p : ℕ) → p < 64 → (p ≡ o → ⊥) → has w p ≡ has (shown m .holds s x) p) where
-  abbrev held : ℕ → ℕ → ℕ → Bool
-  held p q y = if eqb p s and eqb q o and eqb y x then b else m .held p q y
+  abbrev held : ℕ → ℕ → Bool
+  held q y = if eqb q o and eqb y x then b else m .held s q y
 
-  -- elsewhere
-  there : (p y : ℕ) → ((q : ℕ) → eqb p s and eqb q o and eqb y x ≡ false) → shown m .holds p y ≡ pack 64 (λ q. ltb y 2 and held p q y)
-  unfolding shown
-  there p y n = pack-cong 64 (λ q h. ap (λ (c : Bool). ltb y 2 and c) (sym (if-false b (m .held p q y) (n q))))
-
-  member : (q : ℕ) → q < 64 → has w q ≡ ltb x 2 and held s q x
+  member : (q : ℕ) → q < 64 → has w q ≡ ltb x 2 and held q x
   member q h =
       by-truth (eqb q o)
       (λ e.
-      let z = eqb-true q o e in
-      ap (has w) z ∙ own
-      ∙ sym (true-and _ (lt-ltb x 2 hx) ∙ if-true b (m .held s q x) (and-intro (eq-eqb s s refl) (and-intro e (eq-eqb x x refl)))))
+      ap (has w) (eqb-true q o e) ∙ own
+      ∙ sym (true-and _ (lt-ltb x 2 hx) ∙ if-true b (m .held s q x) (and-intro e (eq-eqb x x refl))))
       (λ e.
       other q h (eqb-false q o e)
       ∙ holds-is m s x q h
-      ∙ ap (λ (c : Bool). ltb x 2 and c) (sym (if-false b (m .held s q x) (and-false (eqb s s) (false-and (eqb x x) e)))))
+      ∙ ap (λ (c : Bool). ltb x 2 and c) (sym (if-false b (m .held s q x) (false-and (eqb x x) e))))
 
-  here : (p y : ℕ) → p ≡ s → y ≡ x → upd (shown m .holds) s (upd (shown m .holds s) x w) p y ≡ pack 64 (λ q. ltb y 2 and held p q y)
-  here p y e d =
-      ap₂ (λ (i j : ℕ). upd (shown m .holds) s (upd (shown m .holds s) x w) i j) e d
-      ∙ grid-same (shown m .holds) s x w
-      ∙ pack-is 64 w (λ q. ltb x 2 and held s q x) word member
-      ∙ sym (ap₂ (λ (i j : ℕ). pack 64 (λ q. ltb j 2 and held i q j)) e d)
-
-  openings : (p y : ℕ) → upd (shown m .holds) s (upd (shown m .holds s) x w) p y ≡ pack 64 (λ q. ltb y 2 and held p q y)
-  openings p y =
-      by-truth (eqb p s)
-      (λ e. by-truth (eqb y x)
-      (λ d. here p y (eqb-true p s e) (eqb-true y x d))
-      (λ d.
-      let z = eqb-true p s e in
-      ap (λ (i : ℕ). upd (shown m .holds) s (upd (shown m .holds s) x w) i y) z
-      ∙ ap (λ (f : ℕ → ℕ). f y) (upd-same (shown m .holds) s (upd (shown m .holds s) x w))
-      ∙ upd-other (shown m .holds s) x w y (eqb-false y x d)
-      ∙ sym (ap (λ (i : ℕ). shown m .holds i y) z)
-      ∙ there p y (λ q. and-false (eqb p s) (and-false (eqb q o) d))))
-      (λ e.
-      ap (λ (f : ℕ → ℕ). f y) (upd-other (shown m .holds) s (upd (shown m .holds s) x w) p (eqb-false p s e))
-      ∙ there p y (λ q. false-and _ e))
+  words : (y : ℕ) → upd (shown m .holds s) x w y ≡ pack 64 (λ q. ltb y 2 and held q y)
+  unfolding shown
+  words y =
+      by-upd (shown m .holds s) x w (λ (v : ℕ). v ≡ pack 64 (λ q. ltb y 2 and held q y)) y
+      (λ e. pack-is 64 w (λ q. ltb x 2 and held q x) word member ∙ sym (ap (λ (j : ℕ). pack 64 (λ q. ltb j 2 and held q j)) e))
+      (λ n. pack-cong 64 (λ q h. ap (λ (c : Bool). ltb y 2 and c) (sym (if-false b (m .held s q y) (and-false (eqb q o) (ne-eqb y x n))))))
 
   pub held-agrees : Agree (withHolds (shown m) s (upd (shown m .holds s) x w)) (shown (withHeld m s o x b))
-  unfolding shown
-  held-agrees = record {
-    juniors = λ r h. refl;
-    permitted = λ y h. refl;
-    assigned = λ u h. refl;
-    granted = λ y p h k. refl;
-    owner = λ p h. refl;
-    active = λ p h. refl;
-    holds = λ p y h k. openings p y;
-  }
+  held-agrees = agree-trans (agree-with-holds (agree-refl (shown m)) s (λ y h. words y)) (openings-agree m s held)
 
 module _ (m : Machine) (s o x : ℕ) (ho : o < 64) (hx : x < 2) where
   abbrev old : ℕ
@@ -92,65 +94,6 @@ module _ (m : Machine) (s o x : ℕ) (ho : o < 64) (hx : x < 2) where
       held-agrees m s o x hx false (old without o) (without-lt old o)
       (has-without old o o ho ∙ false-and _ (ap not (eq-eqb o o refl)))
       (λ p h n. has-without old o p h ∙ true-and _ (not-intro (ne-eqb p o n)))
-
--- ---- sessions
-
--- states that agree but for session s, and for s too
-pub record ButSession (s : ℕ) (S S′ : State) : Type 0 where
-  pub juniors : S .juniors ≡ S′ .juniors
-  pub permitted : S .permitted ≡ S′ .permitted
-  pub assigned : S .assigned ≡ S′ .assigned
-  pub granted : S .granted ≡ S′ .granted
-  pub owner : (p : ℕ) → (p ≡ s → ⊥) → S .owner p ≡ S′ .owner p
-  pub active : (p : ℕ) → (p ≡ s → ⊥) → S .active p ≡ S′ .active p
-  pub holds : (p x : ℕ) → (p ≡ s → ⊥) → S .holds p x ≡ S′ .holds p x
-  pub own-owner : S .owner s ≡ S′ .owner s
-  pub own-active : S .active s ≡ S′ .active s
-  pub own-holds : (x : ℕ) → x < 8 → S .holds s x ≡ S′ .holds s x
-
-pub session-agrees : {s : ℕ} {S S′ : State} → ButSession s S S′ → Agree S S′
-session-agrees {s} {S} {S′} a = record {
-  juniors = λ r h. ap (λ (f : ℕ → ℕ). f r) (a .juniors);
-  permitted = λ x h. ap (λ (f : ℕ → ℕ). f x) (a .permitted);
-  assigned = λ u h. ap (λ (f : ℕ → ℕ). f u) (a .assigned);
-  granted = λ x o h k. ap (λ (f : ℕ → ℕ → ℕ). f x o) (a .granted);
-  owner = λ p h. own-or p (λ (i : ℕ). S .owner i ≡ S′ .owner i) (a .own-owner) (a .owner p);
-  active = λ p h. own-or p (λ (i : ℕ). S .active i ≡ S′ .active i) (a .own-active) (a .active p);
-  holds = λ p x h k. own-or p (λ (i : ℕ). S .holds i x ≡ S′ .holds i x) (a .own-holds x k) (a .holds p x);
-}
-  where
-    own-or : (p : ℕ) (P : ℕ → Type 0) → P s → ((p ≡ s → ⊥) → P p) → P p
-    own-or p P f g = by-truth (eqb p s) (λ e. subst P (sym (eqb-true p s e)) f) (λ e. g (eqb-false p s e))
-
--- a state with another seat for session s, beside the machine state with that seat
-module _ (m : Machine) (s : ℕ) (k : Seat) (owner active : ℕ → ℕ) (holds : ℕ → ℕ → ℕ) where
-  pub seat-agrees : ((p : ℕ) → (p ≡ s → ⊥) → owner p ≡ shown m .owner p) → ((p : ℕ) → (p ≡ s → ⊥) → active p ≡ shown m .active p)
-      → ((p x : ℕ) → (p ≡ s → ⊥) → holds p x ≡ shown m .holds p x) → owner s ≡ seatOwner k → active s ≡ seatRoles k → ((x : ℕ) → x < 8 → holds s x ≡ 0)
-      → Agree (record {
-        juniors = shown m .juniors;
-        permitted = shown m .permitted;
-        assigned = shown m .assigned;
-        granted = shown m .granted;
-        owner = owner;
-        active = active;
-        holds = holds;
-      }) (shown (withSeat m s k))
-  unfolding shown
-  seat-agrees o a h eo ea eh =
-      session-agrees (record {
-        juniors = refl;
-        permitted = refl;
-        assigned = refl;
-        granted = refl;
-        owner = λ p n. o p n ∙ ap seatOwner (sym (upd-other (m .seat) s k p n));
-        active = λ p n. a p n ∙ ap seatRoles (sym (upd-other (m .seat) s k p n));
-        holds = λ p x n. h p x n ∙ ap (λ (f : ℕ → ℕ → Bool). pack 64 (λ o. ltb x 2 and f o x)) (sym (upd-other (m .held) s (λ o x. false) p n));
-        own-owner = eo ∙ ap seatOwner (sym (upd-same (m .seat) s k));
-        own-active = ea ∙ ap seatRoles (sym (upd-same (m .seat) s k));
-        own-holds = λ x l.
-            eh x l
-            ∙ sym (pack-none 64 (λ o z. and-false (ltb x 2) (ap (λ (f : ℕ → ℕ → Bool). f o x) (upd-same (m .held) s (λ o x. false)))));
-      })
 
 -- ---- clearances
 
@@ -179,29 +122,12 @@ module _ (k c : ℕ) (hk : k < 32) (hc : c < 32) (n : k ≡ c → ⊥) where
 
 pub cleared-agrees : (m : Machine) (u c w w′ : ℕ) → w′ ≡ clearedRoles c
     → Agree (withAssigned (withAssigned (shown m) u w) u w′) (shown (withClearance m u c))
-unfolding shown
-cleared-agrees m u c w w′ e = record {
-  juniors = λ r h. refl;
-  permitted = λ y h. refl;
-  assigned = λ v h.
-      by-upd (upd (shown m .assigned) u w) u w′ (λ (i : ℕ). i ≡ clearedRoles (upd (m .clearance) u c v)) v
-      (λ z. e ∙ ap clearedRoles (sym (ap (upd (m .clearance) u c) z ∙ upd-same (m .clearance) u c)))
-      (λ z. upd-other (shown m .assigned) u w v z ∙ ap clearedRoles (sym (upd-other (m .clearance) u c v z)));
-  granted = λ y p h k. refl;
-  owner = λ p h. refl;
-  active = λ p h. refl;
-  holds = λ p y h k. refl;
-}
+cleared-agrees m u c w w′ e =
+    agree-trans
+    (agree-set-assigned (agree-refl (shown m)) (λ v h. upd-twice (shown m .assigned) u w w′ v ∙ ap (λ (n : ℕ). upd (shown m .assigned) u n v) e))
+    (clearance-agrees m u c)
 
 -- the clearance that a user has already
 pub own-clearance : (m : Machine) (u c : ℕ) → c ≡ m .clearance u → Agree (shown (withClearance m u c)) (shown m)
-unfolding shown
-own-clearance m u c e = record {
-  juniors = λ r h. refl;
-  permitted = λ y h. refl;
-  assigned = λ v h. ap clearedRoles (upd-own (m .clearance) u c e v);
-  granted = λ y p h k. refl;
-  owner = λ p h. refl;
-  active = λ p h. refl;
-  holds = λ p y h k. refl;
-}
+own-clearance m u c e =
+    agree-trans (agree-sym (clearance-agrees m u c)) (agree-own-assigned (shown m) u (ap clearedRoles e ∙ sym (assigned-is m u)))

@@ -1,11 +1,11 @@
 -- What is safe is reached: the sessions are started one after the other, and each opens what it holds. Assumes nothing.
 use Prim.Native.Nat.{ℕ, _<_}
 use mathlib.Core.Path.{_≡_, refl, sym, ap, ap₂, subst, _∙_}
-use mathlib.Core.Bool.{Bool, true, false}
+use mathlib.Core.Bool.{Bool, true}
 use mathlib.Core.List.{List, [], _∷_, _++_}
 use lib.Dec.{eqb}
 use borrow.Author.Tests.{eq-eqb, eqb-true, lt-ltb}
-use Rattle.bits.specs.Words.{_and_}
+use Rattle.bits.specs.Words.{_and_, if_then_else_}
 use Rattle.bits.proofs.Truth.{clash, by-truth, same-truth, if-true, if-false, and-intro, and-left, and-right}
 use Rattle.bits.proofs.Below.{all-intro}
 use Rattle.table.specs.Table.{tabulate}
@@ -23,6 +23,17 @@ use Rattle.image.proofs.Beginning.{accepted, begin-ranged, begin-safe}
 use Rattle.simulation.specs.Claims.{Same, Reachable}
 use Rattle.simulation.proofs.Toward.{clearances, labels, Toward, Further, stay, through, sweep, asked, good-after}
 
+-- what is open after one opening was changed
+by-held : (n : Machine) (s o x : ℕ) (b : Bool) (P : Bool → Type 0) (p q y : ℕ) → (p ≡ s → q ≡ o → y ≡ x → P b)
+    → ((p ≡ s → q ≡ o → y ≡ x → ⊥) → P (n .held p q y)) → P (withHeld n s o x b .held p q y)
+by-held n s o x b P p q y f g =
+    by-upd (n .held) s (λ q y. if eqb q o and eqb y x then b else n .held s q y) (λ (h : ℕ → ℕ → Bool). P (h q y)) p
+    (λ i. by-truth (eqb q o and eqb y x)
+    (λ c. subst P (sym (if-true b (n .held s q y) c)) (f i (eqb-true q o (and-left _ _ c)) (eqb-true y x (and-right (eqb q o) _ c))))
+    (λ c. subst P (sym (if-false b (n .held s q y) c))
+    (subst (λ (k : ℕ). P (n .held k q y)) i (g (λ d j k. clash (and-intro (eq-eqb q o j) (eq-eqb y x k)) c)))))
+    (λ d. g (λ i j k. d i))
+
 module _ (m : Machine) (g : Ranged m) (f : Safe m) where
   -- session s opens o in mode x
   module _ (s o x : ℕ) (hs : s < 32) (ho : o < 64) (hx : x < 2) (n : Machine) (t : Toward m n) (e : n .seat s ≡ m .seat s) where
@@ -36,27 +47,21 @@ module _ (m : Machine) (g : Ranged m) (f : Safe m) where
         same-clearances = t .same-clearances;
         same-labels = t .same-labels;
         seats = t .seats;
-        openings = λ p q y hp hq hy z. by-truth (eqb p s and eqb q o and eqb y x)
-            (λ b. here p q y b h)
-            (λ b. t .openings p q y hp hq hy (sym (if-false true (n .held p q y) b) ∙ z));
+        openings = λ p q y hp hq hy. by-held n s o x true (λ (b : Bool). b ≡ true → m .held p q y ≡ true) p q y
+            (λ i j k z. rw (i, j, k) h)
+            (λ d. t .openings p q y hp hq hy);
       };
       kept = record {
         seats = λ p l z. z;
-        openings = λ p q y hp hq hy z. by-truth (eqb p s and eqb q o and eqb y x)
-            (λ b. if-true true (n .held p q y) b)
-            (λ b. if-false true (n .held p q y) b ∙ z);
+        openings = λ p q y hp hq hy z. by-held n s o x true (λ (b : Bool). b ≡ true) p q y (λ i j k. refl) (λ d. z);
       };
-      has = λ z. if-true true (n .held s o x) (and-intro (eq-eqb s s refl) (and-intro (eq-eqb o o refl) (eq-eqb x x refl)));
+      has = λ z. by-held n s o x true (λ (b : Bool). b ≡ true) s o x (λ i j k. refl) (λ d. absurd (d refl refl refl));
     }
       where
         opened : step n (ask 1 s o x) .state ≡ withHeld n s o x true
         opened =
             opens n s hs o x ho hx
             (ap₂ (λ (k : Seat) (l : ℕ). mayOpen k l x) e (t .same-labels o ho) ∙ f .openings s o x hs ho hx h)
-
-        here : (p q y : ℕ) → eqb p s and eqb q o and eqb y x ≡ true → m .held s o x ≡ true → m .held p q y ≡ true
-        here p q y b z =
-            rw (eqb-true p s (and-left _ _ b), eqb-true q o (and-left _ _ (and-right (eqb p s) _ b)), eqb-true y x (and-right (eqb q o) _ (and-right (eqb p s) _ b))) z
 
     open-one : Further m n (λ k. m .held s o x ≡ true → k .held s o x ≡ true)
     open-one = by-truth (m .held s o x) open-held (λ h. stay m t (λ z. clash z h))
@@ -75,15 +80,11 @@ module _ (m : Machine) (g : Ranged m) (f : Safe m) where
         seats = λ p h. by-upd (n .seat) s (at u y) (λ (k : Seat). (k ≡ idle → ⊥) → k ≡ m .seat p) p
             (λ q z. sym (ap (m .seat) q ∙ e))
             (λ q z. t .seats p h z);
-        openings = λ p o x hp ho hx. by-upd (n .held) s (λ o x. false) (λ (h : ℕ → ℕ → Bool). h o x ≡ true → m .held p o x ≡ true) p
-            (λ q z. clash z refl)
-            (λ q z. t .openings p o x hp ho hx z);
+        openings = t .openings;
       };
       kept = record {
         seats = λ p h z. by-upd (n .seat) s (at u y) (λ (k : Seat). k ≡ m .seat p) p (λ q. sym (ap (m .seat) q ∙ e)) (λ q. z);
-        openings = λ p o x hp ho hx z. by-upd (n .held) s (λ o x. false) (λ (h : ℕ → ℕ → Bool). h o x ≡ true) p
-            (λ q. absurd (nothing-open p o x q hp ho hx z))
-            (λ q. z);
+        openings = λ p o x hp ho hx z. z;
       };
       has = upd-same (n .seat) s (at u y) ∙ sym e;
     }
@@ -93,11 +94,6 @@ module _ (m : Machine) (g : Ranged m) (f : Safe m) where
             let r = g .seats s u y hs e in
             starts n s hs u y (r .0) (r .1) (ap isIdle i ∙ unfold isIdle in refl)
             (ap (λ (c : ℕ). dominates c y) (t .same-clearances u (r .0)) ∙ f .cleared s u y hs e)
-
-        nothing-open : (p o x : ℕ) → p ≡ s → p < 32 → o < 64 → x < 2 → n .held p o x ≡ true → ⊥
-        nothing-open p o x q hp ho hx z =
-            clash (t .good .safe .openings p o x hp ho hx z)
-            (ap (λ (k : Seat). mayOpen k (n .label o) x) (ap (n .seat) q ∙ i) ∙ unfold mayOpen in refl)
 
     start-one : (j k : Seat) → n .seat s ≡ j → m .seat s ≡ k → Further m n (λ a. a .seat s ≡ m .seat s)
     start-one (at u y) k d e = stay m t (t .seats s hs (λ z. idle-at u y (sym z ∙ d)))

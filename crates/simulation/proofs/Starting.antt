@@ -6,7 +6,7 @@ use mathlib.Core.List.{List}
 use native.Mathlib.Omega.{arith}
 use lib.Dec.{eqb}
 use borrow.Author.Tests.{ne-eqb, eqb-true}
-use Rattle.bits.specs.Words.{_with_}
+use Rattle.bits.specs.Words.{upd, _with_}
 use Rattle.bits.proofs.Truth.{by-truth, true-and, false-and, and-false, if-true, if-false}
 use Rattle.table.specs.State.{State}
 use Rattle.table.specs.Authority.{idle, mayActivate}
@@ -14,7 +14,7 @@ use Rattle.table.specs.Changes.{withOwner, withActive, withHolds}
 use Rattle.table.specs.Sound.{Sound}
 use Rattle.table.specs.Reading.{state}
 use Rattle.table.specs.Table.{encode}
-use Rattle.table.proofs.Agree.{Agree, upd-same, upd-other}
+use Rattle.table.proofs.Agree.{Agree, agree-refl, agree-trans, agree-set-owner, agree-set-active, agree-with-owner, agree-own-holds, upd-same, upd-own}
 use Rattle.table.proofs.Encode.{encode-cong}
 use Rattle.table.proofs.State.{may-activate-user}
 use Rattle.roles.specs.Request.{ask}
@@ -30,7 +30,7 @@ use Rattle.image.proofs.Roles.{authorised-read, authorised-write}
 use Rattle.image.proofs.Shown.{safe-sound, shown-juniors, assigned-is, idle-shown}
 use Rattle.labels.proofs.Carrying.{start-busy, start-uncleared, start-cleared}
 use Rattle.simulation.proofs.Deciding.{Answered, answered-yes, answered-no, answered-on}
-use Rattle.simulation.proofs.Changing.{session-agrees, seat-agrees}
+use Rattle.simulation.proofs.Changing.{upd-twice, seat-agrees}
 use Rattle.simulation.proofs.Single.{Simulated, decided}
 
 owner-at : (u y : ℕ) → suc u ≡ seatOwner (at u y)
@@ -86,9 +86,6 @@ module _ (m : Machine) (g : Ranged m) (f : Safe m) where
       is-idle : idle S s ≡ true
       is-idle = idle-shown m s ∙ b
 
-      nothing-open : (x : ℕ) → x < 8 → S .holds s x ≡ 0
-      nothing-open x h = sound .idle-no-openings s x hs h is-idle
-
       -- a level that is not cleared: the session is ended again
       start-uncleared-same : dominates (m .clearance u) y ≡ false → Simulated m (starting s u y)
       start-uncleared-same n =
@@ -101,20 +98,14 @@ module _ (m : Machine) (g : Ranged m) (f : Safe m) where
           ∙ decide-no _ _ _ _ (and-false _ n)
           ∙ ap (λ (k : ℕ). record { answer = 0; spent = k; state = encode S }) (if-true 3 1 b))
         where
+          -- an idle session has no roles and holds nothing, so that a start and an end leave it as it was
           back : Agree (withHolds (withActive (withOwner S1 s 0) s 0) s (λ x. 0)) S
           back =
-              session-agrees (record {
-                juniors = refl;
-                permitted = refl;
-                assigned = refl;
-                granted = refl;
-                owner = λ p n. upd-other (S1 .owner) s 0 p n ∙ upd-other (S .owner) s (suc u) p n;
-                active = λ p n. upd-other (S1 .active) s 0 p n ∙ upd-other (S .active) s 0 p n;
-                holds = λ p x n. ap (λ (f : ℕ → ℕ). f x) (upd-other (S .holds) s (λ x. 0) p n);
-                own-owner = upd-same (S1 .owner) s 0 ∙ sym (eqb-true (S .owner s) 0 is-idle);
-                own-active = upd-same (S1 .active) s 0 ∙ sym (sound .idle-no-roles s hs is-idle);
-                own-holds = λ x h. ap (λ (f : ℕ → ℕ). f x) (upd-same (S .holds) s (λ x. 0)) ∙ sym (nothing-open x h);
-              })
+              agree-trans
+              (agree-own-holds (withActive (withOwner S1 s 0) s 0) s (λ x h. sym (sound .idle-no-openings s x hs h is-idle)))
+              (agree-set-active (agree-set-owner (agree-refl S)
+              (λ p h. upd-twice (S .owner) s (suc u) 0 p ∙ upd-own (S .owner) s 0 (sym (eqb-true (S .owner s) 0 is-idle)) p))
+              (λ p h. upd-twice (S .active) s 0 0 p ∙ upd-own (S .active) s 0 (sym (sound .idle-no-roles s hs is-idle)) p))
 
       -- a level that is cleared: the session gets its read role and its write role
       start-cleared-same : dominates (m .clearance u) y ≡ true → Simulated m (starting s u y)
@@ -135,17 +126,19 @@ module _ (m : Machine) (g : Ranged m) (f : Safe m) where
               may-activate-user S2 s u (32 + y) owned
               ∙ authorised-write S2 (shown-juniors m) u (m .clearance u) (g .clearances u hu) (assigned-is m u) y hy
 
+          roles : ℕ
+          roles = S2 .active s with (32 + y)
+
           at-level : Agree S3 (shown (withSeat m s (at u y)))
           at-level =
-              seat-agrees m s (at u y) (S3 .owner) (S3 .active) (S .holds)
-              (upd-other (S .owner) s (suc u))
-              (λ p n. upd-other (S2 .active) s _ p n ∙ upd-other (S1 .active) s _ p n ∙ upd-other (S .active) s 0 p n)
-              (λ p x n. refl)
-              (owned ∙ owner-at u y)
-              (upd-same (S2 .active) s (S2 .active s with (32 + y))
-              ∙ ap (λ (w : ℕ). w with (32 + y)) (upd-same (S1 .active) s (S1 .active s with y) ∙ ap (λ (w : ℕ). w with y) (upd-same (S .active) s 0))
-              ∙ roles-at u y)
-              nothing-open
+              agree-trans
+              (agree-set-active (agree-with-owner (agree-refl S) s (owner-at u y)) (λ p h.
+              upd-twice (S1 .active) s (S1 .active s with y) roles p
+              ∙ upd-twice (S .active) s 0 roles p
+              ∙ ap (λ (w : ℕ). upd (S .active) s w p)
+              (ap (λ (w : ℕ). w with (32 + y)) (upd-same (S1 .active) s (S1 .active s with y) ∙ ap (λ (w : ℕ). w with y) (upd-same (S .active) s 0))
+              ∙ roles-at u y)))
+              (seat-agrees m s (at u y))
 
     pub start-same : Simulated m (starting s u y)
     start-same =
