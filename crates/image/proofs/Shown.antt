@@ -5,7 +5,7 @@ use mathlib.Core.Bool.{true}
 use native.Mathlib.Omega.{arith}
 use lib.Dec.{eqb, ltb}
 use borrow.Author.Tests.{ne-eqb, eqb-true, lt-ltb, ltb-true, ltb-false}
-use Rattle.bits.specs.Words.{_and_, has, pack}
+use Rattle.bits.specs.Words.{_and_, if_then_else_, has, pack}
 use Rattle.bits.proofs.Truth.{clash, by-truth, is-false, same-truth, and-intro, and-left, and-right}
 use Rattle.bits.proofs.Word.{has-pack, pack-none}
 use Rattle.table.specs.Authority.{senior, permission, idle, mayActivate, effective}
@@ -80,7 +80,7 @@ module _ (m : Machine) where
     -- what the machine lets a session open is effective for it
     opens-back : (s o : ℕ) → s < 32 → o < 64 → (k : Seat) → m .seat s ≡ k → (x : ℕ) → x < 2 → mayOpen k (m .label o) x ≡ true
         → effective (shown m) s x o ≡ true
-    unfolding mayOpen
+    unfolding mayOpen if_then_else_
     opens-back s o hs ho machine.idle e x hx a = clash a refl
     opens-back s o hs ho (at u y) e zero hx a =
         let hy : y < 32 = g .seats s u y hs e .1 in
@@ -115,7 +115,7 @@ module _ (m : Machine) where
     -- and nothing else is
     by-grant : (u y o r q : ℕ) → y < 32 → o < 64 → q < 64 → has (seatRoles (at u y)) r ≡ true → r < 64 → Over r q
         → (x : ℕ) → has (grantedRoles (m .label o) x) q ≡ true → (x < 2) × (mayOpen (at u y) (m .label o) x ≡ true)
-    unfolding mayOpen
+    unfolding mayOpen if_then_else_
     by-grant u y o r q hy ho hq a hr v zero b = (omega arith, seat-elim u y r hr a (λ z. reading z v) (λ z. crossing z v))
       where
         e : q ≡ m .label o

@@ -142,7 +142,7 @@ life-level s m (q ∷ qs) life h =
 -- ---- the chain
 
 pub walled : Walled
-unfolding mayOpen
+unfolding mayOpen if_then_else_
 walled m qs c d same = dominates-refl (m .label c)
 walled m qs c d (through {e = e} {i = i} {j = j} h s life k r w) =
     let l = life-level s m qs life k in

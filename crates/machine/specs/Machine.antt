@@ -1,6 +1,5 @@
--- The Bell-LaPadula machine of 01 ("Labels"): its state, its five requests, and the answer, the figure and the next state of
--- each. Users and objects are 0 to 63, sessions 0 to 31, labels 0 to 31; mode 0 reads, mode 1 writes without reading.
-use Rattle.bits.specs.Words.{ℕ, zero, suc, _-_, Bool, true, false, not, List, [], _∷_, eqb, leb, getD, _and_, _implies_, if_then_else_, upd, all}
+-- The Bell-LaPadula machine of 01 ("Labels") and its five requests. Users and objects are 0 to 63, sessions and labels 0 to 31.
+use Rattle.bits.specs.Words.{ℕ, _-_, Bool, true, false, not, List, [], _∷_, eqb, leb, getD, _and_, _implies_, if_then_else_, upd, all}
 use Rattle.roles.specs.Request.{Ask, Outcome, refuse, decide, within}
 use Rattle.machine.specs.Label.{dominates}
 
@@ -22,8 +21,7 @@ begin clearances labels =
     record { clearance = λ u. getD clearances u 0; label = λ o. getD labels o 0; seat = λ s. idle; held = λ s o x. false }
 
 pub data Request : Type 0 where
-  opening : (s o x : ℕ) → Request
-  closing : (s o x : ℕ) → Request
+  opening closing : (s o x : ℕ) → Request
   starting : (s u y : ℕ) → Request
   ending : (s : ℕ) → Request
   reclearing : (u c : ℕ) → Request
@@ -48,11 +46,10 @@ unfoldable pub isIdle : Seat → Bool
 isIdle idle = true
 isIdle (at u y) = false
 
--- a session may open an object of label l in mode x: it reads what its level dominates and writes what dominates its level
+-- a session may open an object of label l: mode 0 reads what its level dominates, 1 writes what dominates it, without reading
 unfoldable pub mayOpen : Seat → ℕ → ℕ → Bool
 mayOpen idle l x = false
-mayOpen (at u y) l zero = dominates y l
-mayOpen (at u y) l (suc x) = dominates l y
+mayOpen (at u y) l x = if eqb x 0 then dominates y l else dominates l y
 
 -- c dominates the level of the session, if it is one of user u
 unfoldable pub fits : ℕ → ℕ → Seat → Bool
