@@ -36,7 +36,8 @@ lives s (e ∷ es) = if yesTo 3 s e then upToEnd s es ∷ lives s es else lives 
 abbrev pub opened : ℕ → ℕ → ℕ → ℕ → Event
 opened s o x n = record { asked = ask 1 s o x; answer = 1; spent = n }
 
--- column c is carried into c; and into d, when a life has yes to opening one that c is carried into in mode 0, and d in mode 1
+-- column c is carried into itself; and into d, when a life has yes to an opening in mode 0 of a column that c is carried into
+-- and yes to one in mode 1 of d
 pub data Carried (es : List Event) (c : ℕ) : ℕ → Type 0 where
   same : Carried es c c
   through : {d e i j : ℕ} → Carried es c e → (s : ℕ) (life : List Event) → List·Memᴰ life (lives s es)

@@ -11,24 +11,12 @@ use Rattle.bits.specs.Sets.{_without_}
 use Rattle.bits.proofs.Truth.{by-truth, same-truth, true-and, false-and, and-false, and-intro, if-true, if-false, false-or, not-intro}
 use Rattle.bits.proofs.Word.{has-with, has-without, pack-is, pack-cong, with-lt, without-lt, same-members, with-elim, with-new, with-old, without-old, without-other, without-keeps}
 use Rattle.table.specs.Changes.{withAssigned, withOwner, withActive, withHolds}
-use Rattle.table.proofs.Agree.{Agree, agree-refl, agree-sym, agree-trans, agree-set-assigned, agree-set-owner, agree-set-active, agree-set-holds, agree-with-holds, agree-own-assigned, by-upd, upd-same, upd-other}
+use Rattle.table.proofs.Agree.{Agree, agree-refl, agree-sym, agree-trans, agree-set-assigned, agree-set-owner, agree-set-active, agree-set-holds, agree-with-holds, agree-own-assigned, by-upd}
+use Rattle.table.proofs.Upd.{upd-ap, upd-twice}
 use Rattle.machine.specs.Machine.{Machine, Seat, withSeat, withOpenings, withHeld, withClearance}
 use Rattle.image.specs.Image.{clearedRoles, seatOwner, seatRoles, shown}
 use Rattle.image.proofs.Roles.{cleared-lt, cleared-elim, cleared-own, cleared-write}
 use Rattle.image.proofs.Shown.{holds-is, assigned-is}
-
--- a value put in before and after f, and a value put in twice
-upd-ap : {A B : Type 0} (f : A → B) (g : ℕ → A) (i : ℕ) (v : A) (j : ℕ) → upd (λ k. f (g k)) i (f v) j ≡ f (upd g i v j)
-upd-ap {A} f g i v j =
-    by-upd g i v (λ (x : A). upd (λ k. f (g k)) i (f v) j ≡ f x) j
-    (λ e. ap (upd (λ k. f (g k)) i (f v)) e ∙ upd-same (λ k. f (g k)) i (f v))
-    (upd-other (λ k. f (g k)) i (f v) j)
-
-pub upd-twice : (f : ℕ → ℕ) (i v w j : ℕ) → upd (upd f i v) i w j ≡ upd f i w j
-upd-twice f i v w j =
-    by-upd (upd f i v) i w (λ (n : ℕ). n ≡ upd f i w j) j
-    (λ e. sym (ap (upd f i w) e ∙ upd-same f i w))
-    (λ n. upd-other f i v j n ∙ sym (upd-other f i w j n))
 
 -- ---- the image of each change of the machine
 

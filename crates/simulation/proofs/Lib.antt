@@ -5,6 +5,7 @@ pub mod Single
 pub mod Starting
 pub mod Reclearing
 pub mod Simulation
+pub mod Unchanged
 pub mod Demand
 pub mod Toward
 pub mod Reaching

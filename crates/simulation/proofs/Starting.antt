@@ -15,6 +15,7 @@ use Rattle.table.specs.Sound.{Sound}
 use Rattle.table.specs.Reading.{state}
 use Rattle.table.specs.Table.{encode}
 use Rattle.table.proofs.Agree.{Agree, agree-refl, agree-trans, agree-set-owner, agree-set-active, agree-with-owner, agree-own-holds, upd-same, upd-own}
+use Rattle.table.proofs.Upd.{upd-twice}
 use Rattle.table.proofs.Encode.{encode-cong}
 use Rattle.table.proofs.State.{may-activate-user}
 use Rattle.roles.specs.Request.{ask}
@@ -30,7 +31,7 @@ use Rattle.image.proofs.Roles.{authorised-read, authorised-write}
 use Rattle.image.proofs.Shown.{safe-sound, shown-juniors, assigned-is, idle-shown}
 use Rattle.labels.proofs.Carrying.{start-busy, start-uncleared, start-cleared}
 use Rattle.simulation.proofs.Deciding.{Answered, answered-yes, answered-no, answered-on}
-use Rattle.simulation.proofs.Changing.{upd-twice, seat-agrees}
+use Rattle.simulation.proofs.Changing.{seat-agrees}
 use Rattle.simulation.proofs.Single.{Simulated, decided}
 
 owner-at : (u y : ℕ) → suc u ≡ seatOwner (at u y)

@@ -1,4 +1,5 @@
--- What is claimed of the states that the machine reaches, each as the answer to a question. proofs/Reachable.antt proves them.
+-- What is claimed of single label requests and of the states that the machine reaches, each as the answer to a question.
+-- proofs/Unchanged.antt and proofs/Reachable.antt prove them.
 use mathlib.Core.Logic.{_↔_}
 use Rattle.bits.specs.Words.{ℕ, _^_, _<_, _≡_, true, List}
 use Rattle.table.specs.Table.{isTable}
@@ -11,6 +12,11 @@ use Rattle.image.specs.Image.{image}
 use Rattle.image.specs.Test.{isImage}
 use Rattle.image.specs.SetUp.{labelSetUp}
 use Rattle.image.specs.Claims.{Ranged}
+use Rattle.labels.specs.Guard.{labelStep}
+
+-- Does a label request that is not answered yes change the table? Not one word, of a list of any length and contents.
+abbrev pub Unchanged : Type 0
+Unchanged = (t : List ℕ) → ((i : ℕ) → word t i < 2 ^ 64) → (q : Ask) → (labelStep t q .answer ≡ 1 → ⊥) → labelStep t q .state ≡ t
 
 -- two machine states have the same clearances, labels, seats and openings
 pub record Same (m n : Machine) : Type 0 where

@@ -43,6 +43,20 @@ module _ {A : Type 0} (g : ℕ → ℕ → A) (i p : ℕ) (v : A) where
       ∙ sym (ap (λ (n : ℕ). g n q) e))))
       (λ b. k (ap (λ (h : ℕ → A). h q) (upd-other g i (upd (g i) p v) j (eqb-false j i b))))
 
+-- a value put in before and after f
+pub upd-ap : {A B : Type 0} (f : A → B) (g : ℕ → A) (i : ℕ) (v : A) (j : ℕ) → upd (λ k. f (g k)) i (f v) j ≡ f (upd g i v j)
+upd-ap {A} f g i v j =
+    by-upd g i v (λ (x : A). upd (λ k. f (g k)) i (f v) j ≡ f x) j
+    (λ e. ap (upd (λ k. f (g k)) i (f v)) e ∙ upd-same (λ k. f (g k)) i (f v))
+    (upd-other (λ k. f (g k)) i (f v) j)
+
+-- a value put in twice
+pub upd-twice : (f : ℕ → ℕ) (i v w j : ℕ) → upd (upd f i v) i w j ≡ upd f i w j
+upd-twice f i v w j =
+    by-upd (upd f i v) i w (λ (n : ℕ). n ≡ upd f i w j) j
+    (λ e. sym (ap (upd f i w) e ∙ upd-same f i w))
+    (λ n. upd-other f i v j n ∙ sym (upd-other f i w j n))
+
 -- values that agree, with values that agree put in
 pub upd-agree : {A : Type 0} (f g : ℕ → A) (i j : ℕ) {v w : A} → v ≡ w → f j ≡ g j → upd f i v j ≡ upd g i w j
 unfolding upd
