@@ -9,6 +9,11 @@ fn role(table: &mut [u64], code: u64, a: u64, b: u64, c: u64) {
     assert_eq!((GUARD.role_request)(table, code, a, b, c), 1);
 }
 
+/// An answer that must be yes or no.
+fn not_refused(answer: u64) {
+    assert!(answer < 2, "refusal {answer}");
+}
+
 fn set_up(juniors: &[u64], permissions: &[u64]) -> Vec<u64> {
     let mut table = vec![0; 968];
     assert_eq!((GUARD.role_setup)(&mut table, juniors, permissions), 1);
@@ -57,7 +62,7 @@ pub fn plant() -> Vec<u64> {
         role(&mut table, 5, session, session * 7 % 64, 0);
         for object in (0..64).step_by(2) {
             for mode in 0..4 {
-                (GUARD.role_request)(&mut table, 1, session, object, mode);
+                not_refused((GUARD.role_request)(&mut table, 1, session, object, mode));
             }
         }
     }
@@ -75,7 +80,7 @@ pub fn labels() -> Vec<u64> {
         assert_eq!((GUARD.label_request)(&mut table, 3, session, 2 * session, 2 * session, &mut spent), 1);
         for object in (0..64).step_by(2) {
             for mode in 0..2 {
-                (GUARD.label_request)(&mut table, 1, session, object, mode, &mut spent);
+                not_refused((GUARD.label_request)(&mut table, 1, session, object, mode, &mut spent));
             }
         }
     }

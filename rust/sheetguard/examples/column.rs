@@ -1,4 +1,5 @@
-//! A role table: a session opens one column of a sheet through a junior of its role and is refused another.
+//! A role table: a session opens one column of a sheet through a junior of its role and is refused another. Prints each
+//! answer, and stops where it is not the one that is expected.
 //!
 //! `cargo run --offline -p sheetguard --example column`
 
@@ -14,21 +15,23 @@ fn main() -> Result<(), Refusal> {
     set_up_roles(&mut table, &juniors, &permissions)?;
 
     let requests = [
-        RoleRequest::Grant { role: 1, mode: 0, object: 9 },
-        RoleRequest::Assign { user: 2, role: 3 },
-        RoleRequest::Start { session: 0, user: 2 },
-        RoleRequest::Activate { session: 0, role: 3 },
-        RoleRequest::Open { session: 0, object: 9, mode: 0 },
-        RoleRequest::Open { session: 0, object: 10, mode: 0 },
-        RoleRequest::Revoke { role: 1, mode: 0, object: 9 },
-        RoleRequest::Grant { role: 1, mode: 1, object: 9 },
+        (RoleRequest::Grant { role: 1, mode: 0, object: 9 }, Ok(Answer::Yes)),
+        (RoleRequest::Assign { user: 2, role: 3 }, Ok(Answer::Yes)),
+        (RoleRequest::Start { session: 0, user: 2 }, Ok(Answer::Yes)),
+        (RoleRequest::Activate { session: 0, role: 3 }, Ok(Answer::Yes)),
+        (RoleRequest::Open { session: 0, object: 9, mode: 0 }, Ok(Answer::Yes)),
+        (RoleRequest::Open { session: 0, object: 10, mode: 0 }, Ok(Answer::No)),
+        (RoleRequest::Revoke { role: 1, mode: 0, object: 9 }, Ok(Answer::No)),
+        (RoleRequest::Grant { role: 1, mode: 1, object: 9 }, Err(Refusal::NoPermission)),
     ];
-    for request in requests {
-        match role_request(&mut table, request) {
+    for (request, expected) in requests {
+        let answer = role_request(&mut table, request);
+        match answer {
             Ok(Answer::Yes) => println!("{request:?}: yes"),
             Ok(Answer::No) => println!("{request:?}: no"),
-            Err(refusal) => println!("{request:?}: refused, {refusal}"),
+            Err(refusal) => println!("{request:?}: {refusal}"),
         }
+        assert_eq!(answer, expected);
     }
     Ok(())
 }

@@ -6,6 +6,9 @@
 //! them is a word with bit i set when i is a member. Any slice and any number may be passed: what does not fit is
 //! refused, and a no or a [`Refusal`] leaves all words unchanged.
 //!
+//! A programmer who has to store, restore or migrate a table finds in `docs/TABLE.md` of the project the layout of the
+//! words, what sound means, which fault gets which refusal, and byte order.
+//!
 //! ```
 //! use sheetguard::{label_request, set_up_labels, Answer, LabelRequest, Refusal, WORDS};
 //!
@@ -26,8 +29,30 @@
 //! # Ok(())
 //! # }
 //! ```
+//!
+//! # Labels
+//!
+//! A label is `class * 8 + brand set`: a class 0 to 3, and a set of three brands, worth 1, 2 and 4. Label a *dominates* b
+//! when a's class is at least b's and a's set holds all of b's brands: 25 (class 3, brand 1) dominates 9 (class 1,
+//! brand 1); 17 and 18 (class 2, brands 1 and 2) are apart, and neither dominates the other. Seven of the 32 labels, each
+//! of which dominates itself and those that lines lead down to:
+//!
+//! ```text
+//!       31          31: class 3, all three brands
+//!        |
+//!       27          27: class 3, brands 1 and 2
+//!      /  \
+//!    17    18       17: class 2, brand 1        18: class 2, brand 2
+//!     |    |
+//!     9    10        9: class 1, brand 1        10: class 1, brand 2
+//!      \  /
+//!        0           0: class 0, no brand
+//! ```
+//!
+//! A session reads what its level dominates, and writes what dominates its level.
 
 #![warn(missing_docs)]
+#![doc(test(attr(deny(unused_must_use))))]
 
 pub mod numbers;
 mod request;
@@ -40,6 +65,7 @@ pub const WORDS: usize = 968;
 
 /// The answer to a request that is not refused.
 #[derive(Clone, Copy, Debug, PartialEq, Eq)]
+#[must_use = "the answer may be no, and then nothing was changed"]
 pub enum Answer {
     /// The request is carried out.
     Yes,
@@ -49,6 +75,7 @@ pub enum Answer {
 
 /// An answer to a label request, with the number of role requests made on its behalf.
 #[derive(Clone, Copy, Debug, PartialEq, Eq)]
+#[must_use = "the answer may be no, and then nothing was changed"]
 pub struct Reply {
     /// Yes or no.
     pub answer: Answer,
@@ -58,6 +85,7 @@ pub struct Reply {
 
 /// Why a call is refused; nothing that is lent is changed then. Of several reasons the first in this order is given.
 #[derive(Clone, Copy, Debug, PartialEq, Eq)]
+#[non_exhaustive]
 pub enum Refusal {
     /// 12: the table has not 968 words.
     WrongLength,
@@ -77,54 +105,74 @@ pub enum Refusal {
     BadValue,
     /// 20: direct juniors lead from a role through another back to it.
     Cycle,
-    /// A number that this crate does not know.
-    Other(u64),
+    /// A refusal that this crate does not know.
+    Other(OtherRefusal),
 }
 
-/// The refusals with their numbers and reasons.
-const REFUSALS: [(u64, Refusal, &str); 9] = [
-    (12, Refusal::WrongLength, "the table has not 968 words"),
-    (13, Refusal::Unsound, "the table is not sound"),
-    (14, Refusal::NoImage, "the table is the image of no machine state"),
-    (15, Refusal::BadCode, "there is no request of this code"),
-    (16, Refusal::BadArgument, "an argument is out of range"),
-    (17, Refusal::NoPermission, "the pair is no permission"),
-    (18, Refusal::BadListLength, "a set-up list has not its length"),
-    (19, Refusal::BadValue, "a set-up value is out of range"),
-    (20, Refusal::Cycle, "direct juniors lead from a role through another back to it"),
-];
+/// A number that is neither an answer nor a refusal with a name; [`Refusal::of`] alone makes one.
+#[derive(Clone, Copy, Debug, PartialEq, Eq)]
+pub struct OtherRefusal(u64);
 
 impl Refusal {
-    /// The refusal of a number.
+    /// The refusal of a number; none where the number is an answer, 0 or 1.
     ///
     /// ```
     /// use sheetguard::Refusal;
     ///
-    /// assert_eq!(Refusal::of(13), Refusal::Unsound);
-    /// assert_eq!(Refusal::of(99), Refusal::Other(99));
-    /// assert_eq!(Refusal::Cycle.number(), 20);
+    /// assert_eq!(Refusal::of(1), None);
+    /// assert_eq!(Refusal::of(13), Some(Refusal::Unsound));
+    /// assert!((2..100).all(|number| Refusal::of(number).map(Refusal::number) == Some(number)));
     /// ```
-    pub fn of(number: u64) -> Refusal {
-        let row = REFUSALS.iter().find(|row| row.0 == number);
-        row.map_or(Refusal::Other(number), |row| row.1)
+    pub fn of(number: u64) -> Option<Refusal> {
+        Some(match number {
+            0 | 1 => return None,
+            12 => Refusal::WrongLength,
+            13 => Refusal::Unsound,
+            14 => Refusal::NoImage,
+            15 => Refusal::BadCode,
+            16 => Refusal::BadArgument,
+            17 => Refusal::NoPermission,
+            18 => Refusal::BadListLength,
+            19 => Refusal::BadValue,
+            20 => Refusal::Cycle,
+            _ => Refusal::Other(OtherRefusal(number)),
+        })
     }
 
-    /// The number of the refusal.
+    /// The number of the refusal, never 0 or 1.
     pub fn number(self) -> u64 {
-        match self {
-            Refusal::Other(number) => number,
-            _ => self.row().map_or(0, |row| row.0),
-        }
+        self.row().0
     }
 
-    fn row(self) -> Option<&'static (u64, Refusal, &'static str)> {
-        REFUSALS.iter().find(|row| row.1 == self)
+    /// The number and the reason.
+    fn row(self) -> (u64, &'static str) {
+        match self {
+            Refusal::WrongLength => (12, "the table has not 968 words"),
+            Refusal::Unsound => (13, "the table is not sound"),
+            Refusal::NoImage => (14, "the table is the image of no machine state"),
+            Refusal::BadCode => (15, "there is no request of this code"),
+            Refusal::BadArgument => (16, "an argument is out of range"),
+            Refusal::NoPermission => (17, "the pair is no permission"),
+            Refusal::BadListLength => (18, "a set-up list has not its length"),
+            Refusal::BadValue => (19, "a set-up value is out of range"),
+            Refusal::Cycle => (20, "direct juniors lead from a role through another back to it"),
+            Refusal::Other(OtherRefusal(number)) => (number, "the reason is not known"),
+        }
     }
 }
 
+/// The number and the reason.
+///
+/// ```
+/// use sheetguard::Refusal;
+///
+/// assert_eq!(Refusal::Unsound.to_string(), "refusal 13: the table is not sound");
+/// assert_eq!(Refusal::of(99).unwrap().to_string(), "refusal 99: the reason is not known");
+/// ```
 impl Display for Refusal {
     fn fmt(&self, out: &mut Formatter) -> fmt::Result {
-        out.write_str(self.row().map_or("a refusal that is not known", |row| row.2))
+        let (number, reason) = self.row();
+        write!(out, "refusal {number}: {reason}")
     }
 }
 
@@ -132,11 +180,18 @@ impl std::error::Error for Refusal {}
 
 /// The answer of a number, or the refusal.
 fn answer_of(number: u64) -> Result<Answer, Refusal> {
-    match number {
-        1 => Ok(Answer::Yes),
-        0 => Ok(Answer::No),
-        refusal => Err(Refusal::of(refusal)),
+    match Refusal::of(number) {
+        Some(refusal) => Err(refusal),
+        None if number == 1 => Ok(Answer::Yes),
+        None => Ok(Answer::No),
     }
+}
+
+/// What a call comes to that is answered yes or refused, and never answered no.
+fn accepted(number: u64) -> Result<(), Refusal> {
+    let answer = answer_of(number)?;
+    assert_eq!(answer, Answer::Yes, "by its contract the call is never answered no");
+    Ok(())
 }
 
 /// Writes a fresh role table: the closure of the direct juniors, the permissions, and nothing else.
@@ -159,12 +214,13 @@ fn answer_of(number: u64) -> Result<Answer, Refusal> {
 /// assert_eq!(set_up_roles(&mut [], &juniors, &[0; 8]), Err(Refusal::WrongLength));
 /// ```
 pub fn set_up_roles(table: &mut [u64], juniors: &[u64], permissions: &[u64]) -> Result<(), Refusal> {
-    answer_of(numbers::role_setup(table, juniors, permissions)).map(|_| ())
+    accepted(numbers::role_setup(table, juniors, permissions))
 }
 
 /// Writes a fresh label table, all sessions idle, from 64 clearances and 64 object labels.
 ///
-/// A label is its class (0 to 3) times 8 plus its set of three brands. Old contents of the table do not matter.
+/// A label is `class * 8 + brand set`, as 25 for class 3 and brand 1; [Labels](crate#labels) says which label dominates
+/// which. Old contents of the table do not matter.
 ///
 /// # Errors
 /// [`Refusal::WrongLength`], [`Refusal::BadListLength`], [`Refusal::BadValue`].
@@ -178,7 +234,7 @@ pub fn set_up_roles(table: &mut [u64], juniors: &[u64], permissions: &[u64]) -> 
 /// assert_eq!(set_up_labels(&mut table, &[31; 63], &[0; 64]), Err(Refusal::BadListLength));
 /// ```
 pub fn set_up_labels(table: &mut [u64], clearances: &[u8], labels: &[u8]) -> Result<(), Refusal> {
-    answer_of(numbers::label_setup(table, clearances, labels)).map(|_| ())
+    accepted(numbers::label_setup(table, clearances, labels))
 }
 
 /// A role request.
@@ -245,13 +301,13 @@ pub fn label_request(table: &mut [u64], request: LabelRequest) -> Result<Reply, 
 /// [`Refusal::WrongLength`] and [`Refusal::Unsound`], for the first table and then for the second.
 ///
 /// ```
-/// use sheetguard::{alike, role_request, set_up_roles, Refusal, RoleRequest, WORDS};
+/// use sheetguard::{alike, role_request, set_up_roles, Answer, Refusal, RoleRequest, WORDS};
 ///
 /// # fn main() -> Result<(), Refusal> {
 /// let mut table = [0; WORDS];
 /// set_up_roles(&mut table, &[0; 64], &[0; 8])?;
 /// let old = table;
-/// role_request(&mut table, RoleRequest::Assign { user: 0, role: 0 })?;
+/// assert_eq!(role_request(&mut table, RoleRequest::Assign { user: 0, role: 0 })?, Answer::Yes);
 /// assert!(alike(&old, &table)?);
 /// assert_eq!(alike(&old, &[]), Err(Refusal::WrongLength));
 /// # Ok(())
@@ -267,14 +323,15 @@ pub fn alike(first: &[u64], second: &[u64]) -> Result<bool, Refusal> {
 /// [`Refusal::WrongLength`], [`Refusal::Unsound`], [`Refusal::BadArgument`].
 ///
 /// ```
-/// use sheetguard::{effective_permissions, label_request, set_up_labels, LabelRequest, Refusal, WORDS};
+/// use sheetguard::{effective_permissions, label_request, set_up_labels, Answer, LabelRequest, Refusal, WORDS};
 ///
 /// # fn main() -> Result<(), Refusal> {
 /// let mut labels = [31; 64];
 /// labels[6] = 0;
 /// let mut table = [0; WORDS];
 /// set_up_labels(&mut table, &[9; 64], &labels)?;
-/// label_request(&mut table, LabelRequest::Start { session: 1, user: 0, level: 9 })?;
+/// let start = LabelRequest::Start { session: 1, user: 0, level: 9 };
+/// assert_eq!(label_request(&mut table, start)?.answer, Answer::Yes);
 /// let masks = effective_permissions(&table, 1)?;
 /// assert_eq!((masks[0], masks[1]), (1 << 6, !(1 << 6)));
 /// # Ok(())
@@ -282,7 +339,7 @@ pub fn alike(first: &[u64], second: &[u64]) -> Result<bool, Refusal> {
 /// ```
 pub fn effective_permissions(table: &[u64], session: u64) -> Result<[u64; 8], Refusal> {
     let mut masks = [0; 8];
-    answer_of(numbers::effective_permissions(table, session, &mut masks)).map(|_| masks)
+    accepted(numbers::effective_permissions(table, session, &mut masks)).map(|()| masks)
 }
 
 /// The authorised roles of a user: those assigned and all their juniors, as a word.
@@ -291,14 +348,14 @@ pub fn effective_permissions(table: &[u64], session: u64) -> Result<[u64; 8], Re
 /// [`Refusal::WrongLength`], [`Refusal::Unsound`], [`Refusal::BadArgument`].
 ///
 /// ```
-/// use sheetguard::{authorised_roles, role_request, set_up_roles, Refusal, RoleRequest, WORDS};
+/// use sheetguard::{authorised_roles, role_request, set_up_roles, Answer, Refusal, RoleRequest, WORDS};
 ///
 /// # fn main() -> Result<(), Refusal> {
 /// let mut juniors = [0; 64];
 /// juniors[5] = 1 << 3;
 /// let mut table = [0; WORDS];
 /// set_up_roles(&mut table, &juniors, &[0; 8])?;
-/// role_request(&mut table, RoleRequest::Assign { user: 0, role: 5 })?;
+/// assert_eq!(role_request(&mut table, RoleRequest::Assign { user: 0, role: 5 })?, Answer::Yes);
 /// assert_eq!(authorised_roles(&table, 0)?, 1 << 5 | 1 << 3);
 /// assert_eq!(authorised_roles(&table, 64), Err(Refusal::BadArgument));
 /// # Ok(())
@@ -306,5 +363,5 @@ pub fn effective_permissions(table: &[u64], session: u64) -> Result<[u64; 8], Re
 /// ```
 pub fn authorised_roles(table: &[u64], user: u64) -> Result<u64, Refusal> {
     let mut roles = [0];
-    answer_of(numbers::authorised_roles(table, user, &mut roles)).map(|_| roles[0])
+    accepted(numbers::authorised_roles(table, user, &mut roles)).map(|()| roles[0])
 }

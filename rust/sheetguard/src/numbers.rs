@@ -44,6 +44,7 @@ extern "C" {
 // many elements as the length says; what is written is lent by `&mut`, so that it overlaps nothing.
 
 /// Writes a fresh role table from 64 words of direct juniors and 8 words of permissions.
+#[must_use]
 pub fn role_setup(table: &mut [u64], juniors: &[u64], permissions: &[u64]) -> u64 {
     // SAFETY: see above
     unsafe {
@@ -59,18 +60,21 @@ pub fn role_setup(table: &mut [u64], juniors: &[u64], permissions: &[u64]) -> u6
 }
 
 /// A role request by its code and arguments.
+#[must_use]
 pub fn role_request(table: &mut [u64], code: u64, a: u64, b: u64, c: u64) -> u64 {
     // SAFETY: see above
     unsafe { sheetguard_role_request(table.as_mut_ptr(), table.len(), code, a, b, c) }
 }
 
 /// Whether two tables are alike.
+#[must_use]
 pub fn alike(first: &[u64], second: &[u64]) -> u64 {
     // SAFETY: see above
     unsafe { sheetguard_alike(first.as_ptr(), first.len(), second.as_ptr(), second.len()) }
 }
 
 /// Writes a fresh label table from 64 clearances and 64 object labels.
+#[must_use]
 pub fn label_setup(table: &mut [u64], clearances: &[u8], labels: &[u8]) -> u64 {
     // SAFETY: see above
     unsafe {
@@ -86,18 +90,21 @@ pub fn label_setup(table: &mut [u64], clearances: &[u8], labels: &[u8]) -> u64 {
 }
 
 /// A label request by its code and arguments; `spent` becomes the number of role requests made for it.
+#[must_use]
 pub fn label_request(table: &mut [u64], code: u64, a: u64, b: u64, c: u64, spent: &mut u64) -> u64 {
     // SAFETY: see above
     unsafe { sheetguard_label_request(table.as_mut_ptr(), table.len(), code, a, b, c, spent) }
 }
 
 /// Writes the effective permissions of a session into eight words.
+#[must_use]
 pub fn effective_permissions(table: &[u64], session: u64, masks: &mut [u64]) -> u64 {
     // SAFETY: see above
     unsafe { sheetguard_effective_permissions(table.as_ptr(), table.len(), session, masks.as_mut_ptr(), masks.len()) }
 }
 
 /// Writes the authorised roles of a user into one word.
+#[must_use]
 pub fn authorised_roles(table: &[u64], user: u64, roles: &mut [u64]) -> u64 {
     // SAFETY: see above
     unsafe { sheetguard_authorised_roles(table.as_ptr(), table.len(), user, roles.as_mut_ptr(), roles.len()) }
