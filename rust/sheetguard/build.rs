@@ -18,10 +18,7 @@ fn main() {
     let archive = folder.join(ARCHIVE);
     println!("cargo::rerun-if-changed={}", archive.display());
     if !archive.is_file() {
-        println!(
-            "cargo::error=there is no {}: run `rt staticlib sheetguard`, or set SHEETGUARD_LIB",
-            archive.display()
-        );
+        eprintln!("there is no {}: run `rt staticlib sheetguard`, or set SHEETGUARD_LIB", archive.display());
         exit(1);
     }
     println!("cargo::rustc-link-search=native={}", folder.display());
