@@ -1,5 +1,6 @@
 /*
- * A label table: a tablet at level 17 opens one column of a sheet and is refused another.
+ * A label table: a tablet at level 17 opens one column of a sheet and is refused another. Prints each answer, and stops
+ * where it is not the one that is expected.
  *
  *     cc -Iinclude examples/column.c target/staticlib/libsheetguard.a -o column && ./column
  */
@@ -27,9 +28,9 @@ int main(void)
     uint8_t clearances[64] = {0};
     uint8_t labels[64] = {0};
 
-    clearances[4] = 17; /* user 4: class 2, brand 0 */
-    labels[7] = 9;      /* object 7: class 1, brand 0 */
-    labels[8] = 25;     /* object 8: class 3, brand 0 */
+    clearances[4] = 17; /* user 4: class 2, brand 1 */
+    labels[7] = 9;      /* object 7: class 1, brand 1 */
+    labels[8] = 25;     /* object 8: class 3, brand 1 */
     if (sheetguard_label_setup(table, SHEETGUARD_WORDS, clearances, 64, labels, 64) != SHEETGUARD_YES)
         return EXIT_FAILURE;
 

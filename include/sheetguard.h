@@ -4,12 +4,15 @@
  * Link with libsheetguard.a, which `rt staticlib sheetguard` writes to target/staticlib (x86-64 Linux).
  *
  * The guard keeps nothing. The caller lends it a table of SHEETGUARD_WORDS words at each call and stores the table as it
- * likes. Every function returns, whatever the words and numbers are, and answers with a number:
+ * likes. A programmer who has to store, restore or migrate one finds in docs/TABLE.md the layout of the words, what sound
+ * means, which fault gets which refusal, and byte order. Every function returns, whatever the words and numbers are, and
+ * answers with a number:
  *
  *     SHEETGUARD_YES, SHEETGUARD_NO, or a refusal, 12 to 20, the first that fits in the order of the numbers (of two
  *     tables, the first table's before the second's).
  *
  * A no and a refusal leave all that is lent unchanged, but for *spent, which every label request writes: 0 at a refusal.
+ * Four functions write the table, and at a yes alone: the two set-ups and the two requests. The other three only read it.
  *
  * What a caller owes:
  *   - a pointer is never NULL, also where its length is 0, and is aligned for its type;
@@ -63,9 +66,19 @@ enum {
     SHEETGUARD_REVOKE = 10   /* role, mode, object: yes when the table without it is sound */
 };
 
-/* Codes of label requests. Mode 0 reads, mode 1 writes without reading; there is no other. */
+/*
+ * Codes of label requests. Mode 0 reads, mode 1 writes without reading; there is no other.
+ *
+ * A label is class * 8 + brand set: a class 0 to 3, and a set of three brands, worth 1, 2 and 4. Label a dominates b when
+ * a's class is at least b's and a's set holds all of b's: 25 (class 3, brand 1) dominates 9 (class 1, brand 1); 17 and 18
+ * (class 2, brands 1 and 2) are apart. Each label dominates itself and those to the right of it in its line:
+ *
+ *     31 -- 27 -- 17 --  9 -- 0     31: class 3, all brands; 27: class 3, brands 1 and 2; 0: class 0, no brand
+ *     31 -- 27 -- 18 -- 10 -- 0     17 and 9 are apart from 18 and 10
+ */
 enum {
-    SHEETGUARD_LABEL_OPEN = 1,   /* session, object, mode: no read up, no write down */
+    SHEETGUARD_LABEL_OPEN = 1,   /* session, object, mode: yes when not idle and, in mode 0, its level dominates the
+                                    object's label, or, in mode 1, the label its level */
     SHEETGUARD_LABEL_CLOSE = 2,  /* session, object, mode: always yes */
     SHEETGUARD_LABEL_START = 3,  /* session, user, level: yes when idle and the clearance dominates the level */
     SHEETGUARD_LABEL_END = 4,    /* session: yes when it is not idle */
@@ -73,6 +86,7 @@ enum {
 };
 
 /*
+ * Table: written at YES.
  * Writes a fresh role table: who is senior to whom, what is a permission, and nothing else. juniors has 64 words, word r
  * the direct juniors of role r (its own bit is ignored); permissions has 8 words, word x the objects o for which (mode x,
  * object o) is a permission. Old contents of the table do not matter.
@@ -83,12 +97,14 @@ uint64_t sheetguard_role_setup(uint64_t *table, size_t words,
                                const uint64_t *permissions, size_t n_permissions);
 
 /*
- * A role request. Answers YES and writes the table, or NO, or refusal 12, 13, 15, 16 or 17.
+ * Table: written at YES.
+ * A role request. Answers YES, NO, or refusal 12, 13, 15, 16 or 17.
  */
 uint64_t sheetguard_role_request(uint64_t *table, size_t words,
                                  uint64_t code, uint64_t a, uint64_t b, uint64_t c);
 
 /*
+ * Tables: only read.
  * Whether two tables have the same openings and the same effective permissions of each session. Answers YES or NO, or
  * refusal 12 or 13 for the first table, then for the second. The two may be the same table.
  */
@@ -96,8 +112,10 @@ uint64_t sheetguard_alike(const uint64_t *first, size_t n_first,
                           const uint64_t *second, size_t n_second);
 
 /*
- * Writes a fresh label table, all sessions idle: 64 clearances, one a user, and 64 labels, one an object, a byte each.
- * A label is its class (0 to 3) times 8 plus its set of three brands. Old contents of the table do not matter.
+ * Table: written at YES.
+ * Writes a fresh label table, all sessions idle: 64 clearances, one a user, and 64 labels, one an object, a byte each. A
+ * label is class * 8 + brand set, as 25 for class 3 and brand 1 (see the codes of label requests). Old contents of the
+ * table do not matter.
  * Answers YES, or refusal 12, 18 or 19.
  */
 uint64_t sheetguard_label_setup(uint64_t *table, size_t words,
@@ -105,14 +123,16 @@ uint64_t sheetguard_label_setup(uint64_t *table, size_t words,
                                 const uint8_t *labels, size_t n_labels);
 
 /*
- * A label request. Answers YES and writes the table, or NO, or refusal 12, 13, 14, 15 or 16; *spent becomes the number
- * of role requests that were made for it, at most 3.
+ * Table: written at YES. *spent: always written.
+ * A label request. Answers YES, NO, or refusal 12, 13, 14, 15 or 16; *spent becomes the number of role requests that were
+ * made for it, at most 3.
  */
 uint64_t sheetguard_label_request(uint64_t *table, size_t words,
                                   uint64_t code, uint64_t a, uint64_t b, uint64_t c,
                                   uint64_t *spent);
 
 /*
+ * Table: only read. masks: written at YES.
  * Writes the effective permissions of a session into eight lent words, word x the objects of mode x. n_masks is 8.
  * Answers YES, or refusal 12, 13, or 16 where there is no such session or n_masks is not 8.
  */
@@ -121,6 +141,7 @@ uint64_t sheetguard_effective_permissions(const uint64_t *table, size_t words,
                                           uint64_t *masks, size_t n_masks);
 
 /*
+ * Table: only read. roles: written at YES.
  * Writes the authorised roles of a user, those assigned and all their juniors, into one lent word. n_roles is 1.
  * Answers YES, or refusal 12, 13, or 16 where there is no such user or n_roles is not 1.
  */

@@ -45,6 +45,10 @@ impl RoleRequest {
 }
 
 /// A request on a label table. Mode 0 reads, mode 1 writes without reading.
+///
+/// A label is `class * 8 + brand set`. Label a dominates b when a's class is at least b's and a's set holds all of b's: 25
+/// (class 3, brand 1) dominates 9 (class 1, brand 1); 17 and 18 (class 2, brands 1 and 2) are apart. There is a picture
+/// under [Labels](crate#labels).
 #[derive(Clone, Copy, Debug, PartialEq, Eq)]
 #[allow(missing_docs)] // the fields are what their names say
 pub enum LabelRequest {
