@@ -2,7 +2,7 @@
 
 use crate::requests::{below, unlisted};
 use crate::state::{seconds, Mode, Object, Session, State, User, OBJECTS, SESSIONS, USERS};
-use crate::turns::{taken, Turn};
+use crate::turns::turn;
 use std::collections::{BTreeMap, BTreeSet};
 
 /// A label: a class 0 to 3 and a set of three brands.
@@ -130,7 +130,7 @@ impl Machine {
 
     fn reclear(&mut self, u: User, c: Label) -> (bool, u64) {
         if self.clearances.get(&u) == Some(&c) {
-            return self.reclear_same(u);
+            return turn!("wrong-reclear-same", (true, 0), self.reclear_same(u));
         }
         let mut seats = self.sessions.values().filter(|(user, _)| *user == u);
         let yes = seats.all(|(_, level)| c.dominates(*level));
@@ -140,11 +140,9 @@ impl Machine {
         (yes, if yes { 2 } else { 3 })
     }
 
-    /// Reclearing to the clearance that a user has; the wrong turn adds the role and removes it.
+    /// Reclearing to the clearance that a user has by adding the role and removing it, for the wrong turn.
+    #[cfg(feature = "wrong-reclear-same")]
     fn reclear_same(&mut self, u: User) -> (bool, u64) {
-        if !taken(Turn::ReclearSame) {
-            return (true, 0);
-        }
         if self.sessions.values().any(|(user, _)| *user == u) {
             return (false, 3);
         }
@@ -200,10 +198,7 @@ impl Machine {
 
 /// Whether a session at a level may write what has the label; the wrong turn lets it write down.
 fn may_write(label: Label, level: Label) -> bool {
-    match taken(Turn::WriteLikeRead) {
-        false => label.dominates(level),
-        true => level.dominates(label),
-    }
+    turn!("wrong-write-like-read", label.dominates(level), level.dominates(label))
 }
 
 /// The label whose reading role is the only one among the roles.

@@ -16,6 +16,7 @@ mod turns;
 
 pub use labels::{Label, Machine};
 pub use state::State;
+pub use turns::WRONG;
 
 /// Yes or no, or the number of a refusal.
 pub type Answer = Result<bool, u64>;

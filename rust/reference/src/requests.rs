@@ -1,7 +1,7 @@
 //! The ten role requests.
 
 use crate::state::{Mode, Object, Role, Session, State, User, MODES, OBJECTS, ROLES, SESSIONS, USERS};
-use crate::turns::{taken, Turn};
+use crate::turns::turn;
 use crate::Answer;
 
 /// A role request whose arguments are in range.
@@ -86,16 +86,17 @@ impl State {
             Request::Start(s, _) => self.is_idle(s),
             Request::End(s) => !self.is_idle(s),
             Request::Activate(s, r) => self.authorised_for(s).contains(&r),
-            Request::Deassign(u, r) if taken(Turn::DeassignDirect) => !self.is_active_for(u, r),
-            Request::Drop(..) | Request::Deassign(..) | Request::Revoke(..) => next.is_sound(),
+            Request::Deassign(..) => turn!("wrong-deassign-direct", next.is_sound(), !self.has_active(request)),
+            Request::Drop(..) | Request::Revoke(..) => next.is_sound(),
             Request::Close(..) | Request::Assign(..) | Request::Grant(..) => true,
         }
     }
 
-    /// Whether a session of user u has role r active.
-    fn is_active_for(&self, u: User, r: Role) -> bool {
-        let mut sessions = self.users.iter().filter(|(_, user)| **user == u);
-        sessions.any(|(s, _)| self.active.contains(&(*s, r)))
+    /// Whether the user who is deassigned a role has it active in a session, for the wrong turn.
+    #[cfg(feature = "wrong-deassign-direct")]
+    fn has_active(&self, request: Request) -> bool {
+        let has = |s, u| matches!(request, Request::Deassign(user, r) if user == u && self.active.contains(&(s, r)));
+        self.users.iter().any(|(s, u)| has(*s, *u))
     }
 
     /// The column "effect of yes".

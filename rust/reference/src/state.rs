@@ -1,6 +1,6 @@
 //! The RBAC96 state: sets, relations, and the definitions of source document 000 on them.
 
-use crate::turns::{taken, Turn};
+use crate::turns::turn;
 use std::collections::{BTreeMap, BTreeSet};
 
 pub type User = u64;
@@ -44,23 +44,17 @@ impl State {
         seconds(&self.seniority, r)
     }
 
-    /// Role r and all roles that are senior to it.
+    /// Role r and all roles that are senior to it, for the wrong turns.
+    #[cfg(any(feature = "wrong-authorised-upwards", feature = "wrong-permissions-from-seniors"))]
     fn seniors(&self, r: Role) -> impl Iterator<Item = Role> + '_ {
         let above = self.seniority.iter().filter(move |(_, junior)| *junior == r);
         above.map(|(senior, _)| *senior)
     }
 
-    /// The roles and all their juniors; a wrong turn gathers upwards.
-    fn gather(&self, roles: impl Iterator<Item = Role>, upwards: Turn) -> BTreeSet<Role> {
-        match taken(upwards) {
-            false => roles.flat_map(|r| self.juniors(r)).collect(),
-            true => roles.flat_map(|r| self.seniors(r)).collect(),
-        }
-    }
-
     /// The roles assigned to a user, and all their juniors.
     pub fn authorised(&self, u: User) -> BTreeSet<Role> {
-        self.gather(seconds(&self.assigned, u), Turn::AuthorisedUpwards)
+        let covered = |r| turn!("wrong-authorised-upwards", self.juniors(r), self.seniors(r));
+        seconds(&self.assigned, u).flat_map(covered).collect()
     }
 
     /// The authorised roles of the user of a session; an idle session has none.
@@ -73,7 +67,8 @@ impl State {
 
     /// The permissions granted to an active role of a session or to a junior of one.
     pub fn effective(&self, s: Session) -> BTreeSet<(Mode, Object)> {
-        let roles = self.gather(seconds(&self.active, s), Turn::PermissionsFromSeniors);
+        let covered = |r| turn!("wrong-permissions-from-seniors", self.juniors(r), self.seniors(r));
+        let roles: BTreeSet<Role> = seconds(&self.active, s).flat_map(covered).collect();
         let granted = self.granted.iter().filter(|(_, _, r)| roles.contains(r));
         let pairs = granted.map(|(x, o, _)| (*x, *o));
         pairs.filter(|pair| self.permissions.contains(pair)).collect()
