@@ -1,5 +1,7 @@
 //! A case: steps on one table.
 
+use crate::words::Layer;
+
 /// What is done to the table, or asked of it.
 #[derive(Clone, Debug, PartialEq, Eq)]
 pub enum Step {
@@ -31,6 +33,16 @@ pub enum Step {
     Keep,
     /// Puts the kept copy back.
     Restore,
+}
+
+impl Step {
+    /// A request of a layer: code and three arguments.
+    pub fn request(layer: Layer, ask: [u64; 4]) -> Step {
+        match layer {
+            Layer::Roles => Step::Role(ask),
+            Layer::Labels => Step::Label(ask),
+        }
+    }
 }
 
 /// Steps on a table of 968 words that are 0, the kept copy like it.

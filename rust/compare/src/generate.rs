@@ -2,6 +2,7 @@
 
 use crate::case::{Case, Step};
 use crate::random::Random;
+use crate::words::{Field, Layer};
 
 /// The few numbers that most arguments of a case come from.
 struct World {
@@ -25,13 +26,26 @@ impl World {
             labels: pool(5, 32),
         }
     }
-}
 
-/// The layer that a table is set up for.
-#[derive(Clone, Copy, Debug, PartialEq, Eq)]
-pub enum Layer {
-    Roles,
-    Labels,
+    /// Mostly from the case's few, sometimes any number in range, seldom one out of range.
+    fn value(&self, random: &mut Random, field: Field) -> u64 {
+        let (pool, count): (&[u64], u64) = match field {
+            Field::User => (&self.users, 64),
+            Field::Role => (&self.roles, 64),
+            Field::Session => (&self.sessions, 32),
+            Field::Object => (&self.objects, 64),
+            Field::Mode => (&self.modes, 8),
+            Field::LabelMode => (&[0, 1], 2),
+            Field::Label => (&self.labels, 32),
+        };
+        match random.below(200) {
+            0 => count,
+            1 => count + random.below(200),
+            2 => random.word(),
+            3..=9 => random.below(count),
+            _ => random.one(pool),
+        }
+    }
 }
 
 impl Layer {
@@ -41,29 +55,31 @@ impl Layer {
             Layer::Roles => vec![role_setup(random, world)],
             Layer::Labels => vec![label_setup(random, world)],
         };
-        steps.extend(list(random, 30, |random| match self {
-            Layer::Roles => role_request(random, world, &ROLE_GROWTH),
-            Layer::Labels => label_request(random, world, &LABEL_GROWTH),
-        }));
+        let weights: &[u64] = match self {
+            Layer::Roles => &ROLE_GROWTH,
+            Layer::Labels => &LABEL_GROWTH,
+        };
+        steps.extend(list(random, 30, |random| self.weighted(random, world, weights)));
         steps
     }
 
-    fn request(self, random: &mut Random, world: &World) -> Step {
+    /// A request on a table in use.
+    fn any_request(self, random: &mut Random, world: &World) -> Step {
         match self {
-            Layer::Roles => role_request(random, world, &ROLE_WEIGHTS),
-            Layer::Labels => label_request(random, world, &LABEL_WEIGHTS),
+            Layer::Roles => self.weighted(random, world, &ROLE_WEIGHTS),
+            Layer::Labels => self.weighted(random, world, &LABEL_WEIGHTS),
         }
     }
-}
 
-/// Mostly from the pool, sometimes any number below the count, seldom one out of range.
-fn argument(random: &mut Random, pool: &[u64], count: u64) -> u64 {
-    match random.below(200) {
-        0 => count,
-        1 => count + random.below(200),
-        2 => random.word(),
-        3..=9 => random.below(count),
-        _ => random.one(pool),
+    /// A request of a code by weights; one without a request of its own has the arguments of code 1.
+    fn weighted(self, random: &mut Random, world: &World, weights: &[u64]) -> Step {
+        let code = code(random, weights);
+        let fields = self.request(code).or(self.request(1)).map_or(&[][..], |word| word.fields);
+        let mut argument = |at: usize| match fields.get(at) {
+            Some(field) => world.value(random, *field),
+            None => unlisted(random),
+        };
+        Step::request(self, [code, argument(0), argument(1), argument(2)])
     }
 }
 
@@ -101,45 +117,11 @@ const ROLE_GROWTH: [u64; 10] = [4, 0, 4, 0, 6, 0, 4, 0, 6, 0];
 const LABEL_WEIGHTS: [u64; 5] = [30, 6, 14, 4, 10];
 const LABEL_GROWTH: [u64; 5] = [3, 0, 3, 0, 0];
 
-fn role_request(random: &mut Random, world: &World, weights: &[u64]) -> Step {
-    let code = code(random, weights);
-    let session = argument(random, &world.sessions, 32);
-    let user = argument(random, &world.users, 64);
-    let role = argument(random, &world.roles, 64);
-    let object = argument(random, &world.objects, 64);
-    let mode = argument(random, &world.modes, 8);
-    let other = unlisted(random);
-    Step::Role(match code {
-        1 | 2 => [code, session, object, mode],
-        3 => [code, session, user, other],
-        4 => [code, session, other, unlisted(random)],
-        5 | 6 => [code, session, role, other],
-        7 | 8 => [code, user, role, other],
-        _ => [code, role, mode, object],
-    })
-}
-
-fn label_request(random: &mut Random, world: &World, weights: &[u64]) -> Step {
-    let code = code(random, weights);
-    let session = argument(random, &world.sessions, 32);
-    let user = argument(random, &world.users, 64);
-    let object = argument(random, &world.objects, 64);
-    let mode = argument(random, &[0, 1], 2);
-    let label = argument(random, &world.labels, 32);
-    let other = unlisted(random);
-    Step::Label(match code {
-        1 | 2 => [code, session, object, mode],
-        3 => [code, session, user, label],
-        4 => [code, session, other, unlisted(random)],
-        _ => [code, user, label, other],
-    })
-}
-
 /// A reading of a session's permissions or of a user's roles.
 fn reading(random: &mut Random, world: &World) -> Step {
     match random.below(2) {
-        0 => Step::Permissions(argument(random, &world.sessions, 32)),
-        _ => Step::Authorised(argument(random, &world.users, 64)),
+        0 => Step::Permissions(world.value(random, Field::Session)),
+        _ => Step::Authorised(world.value(random, Field::User)),
     }
 }
 
@@ -224,7 +206,7 @@ pub fn requests(random: &mut Random, layer: Layer) -> Case {
     let mut steps = layer.beginning(random, &world);
     steps.extend(list(random, 100, |random| match random.below(20) {
         0 => reading(random, &world),
-        _ => layer.request(random, &world),
+        _ => layer.any_request(random, &world),
     }));
     Case(steps)
 }
@@ -233,7 +215,7 @@ pub fn requests(random: &mut Random, layer: Layer) -> Case {
 pub fn many_requests(random: &mut Random, layer: Layer, count: usize) -> Case {
     let world = World::new(random);
     let mut steps = layer.beginning(random, &world);
-    steps.extend((0..count).map(|_| layer.request(random, &world)));
+    steps.extend((0..count).map(|_| layer.any_request(random, &world)));
     Case(steps)
 }
 
@@ -242,8 +224,8 @@ fn any_call(random: &mut Random, world: &World) -> Step {
     match random.below(10) {
         0 => Step::Alike,
         1 => reading(random, world),
-        2..=5 => Layer::Labels.request(random, world),
-        _ => Layer::Roles.request(random, world),
+        2..=5 => Layer::Labels.any_request(random, world),
+        _ => Layer::Roles.any_request(random, world),
     }
 }
 
@@ -277,7 +259,7 @@ fn in_rounds(random: &mut Random, disturb: impl Fn(&mut Random, &World, Layer) -
     let layer = random.one(&[Layer::Roles, Layer::Labels]);
     let mut steps = layer.beginning(random, &world);
     for _ in 0..5 {
-        steps.extend(list(random, 20, |random| layer.request(random, &world)));
+        steps.extend(list(random, 20, |random| layer.any_request(random, &world)));
         steps.push(Step::Keep);
         steps.extend(disturb(random, &world, layer));
     }
@@ -303,7 +285,7 @@ pub fn likeness(random: &mut Random) -> Case {
         let changes = list(random, 4, |random| match random.below(8) {
             0 => damage(random),
             1 => wrong_length(random),
-            _ => layer.request(random, world),
+            _ => layer.any_request(random, world),
         });
         [changes, vec![Step::Alike, Step::Restore, Step::Alike]].concat()
     })
@@ -313,7 +295,7 @@ pub fn likeness(random: &mut Random) -> Case {
 pub fn damage_everywhere(random: &mut Random, layer: Layer) -> Vec<Case> {
     let world = World::new(random);
     let mut start = layer.beginning(random, &world);
-    start.extend((0..60).map(|_| layer.request(random, &world)));
+    start.extend((0..60).map(|_| layer.any_request(random, &world)));
     start.push(Step::Keep);
     let mut section = |ends: &[u64]| {
         let mut steps = start.clone();

@@ -14,13 +14,18 @@ mod run;
 mod shrink;
 mod text;
 mod transcripts;
+mod words;
 
 pub use case::{Case, Step};
-pub use generate::{damage_everywhere, damaged, likeness, many_requests, requests, set_ups, Layer};
+pub use generate::{damage_everywhere, damaged, likeness, many_requests, requests, set_ups};
 #[cfg(feature = "proved")]
 pub use guard::PROVED;
 pub use guard::{Guard, GUARDS, PLAIN, REFERENCE};
 pub use random::Random;
-pub use reached::{Reached, EVERY_CALL, EVERY_TRANSCRIPT};
-pub use run::{check, compare};
+pub use reached::{every_call, every_transcript, Reached};
+pub use run::{check, compare, Reply, Run, LENT};
 pub use transcripts::{check_transcript, difference, random_transcript, readers, Reader};
+pub use words::Layer;
+
+#[cfg(test)]
+const _: () = assert!(!reference::WRONG, "tests are built without a wrong turn");

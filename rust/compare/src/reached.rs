@@ -1,34 +1,43 @@
-//! Which answers and refusals were reached, and which should have been.
+//! Which answers and refusals were reached, and which have to be.
 
 use crate::case::Step;
+use crate::words::{Layer, Word};
 use std::collections::BTreeMap;
 
-/// How often each answer was reached: the call, and its numbers.
+/// How often each answer was reached: the call or the line, and its numbers.
 #[derive(Clone, Debug, Default)]
 pub struct Reached(BTreeMap<String, u64>);
 
 impl Reached {
-    pub fn count(&mut self, what: String) {
+    fn count(&mut self, what: String) {
         *self.0.entry(what).or_default() += 1;
     }
 
-    /// Counts the answer of a step.
+    /// Counts the answers of a step.
     pub fn step(&mut self, step: &Step, answers: &[u64]) {
         let call = match step {
-            Step::RoleSetup { .. } => "role set-up".to_string(),
-            Step::LabelSetup { .. } => "label set-up".to_string(),
-            Step::Role([code, ..]) => format!("role {}", code.min(&11)),
-            Step::Label([code, ..]) => format!("label {}", code.min(&6)),
-            Step::Permissions(_) => "permissions".to_string(),
-            Step::Authorised(_) => "authorised".to_string(),
-            Step::Alike => "alike".to_string(),
+            Step::RoleSetup { .. } => "role set-up",
+            Step::LabelSetup { .. } => "label set-up",
+            Step::Permissions(_) => "permissions",
+            Step::Authorised(_) => "authorised",
+            Step::Alike => "alike",
+            Step::Role([code, ..]) => return self.count(request_answer(Layer::Roles, *code, [answers[0], 0])),
+            Step::Label([code, ..]) => {
+                return self.count(request_answer(Layer::Labels, *code, [answers[0], answers[1]]))
+            }
             Step::Put(..) | Step::Flip(..) | Step::Length(_) | Step::Keep | Step::Restore => return,
         };
-        match (step, answers) {
-            (Step::Alike, _) => answers.iter().for_each(|answer| self.count(format!("{call}: {answer}"))),
-            (_, [answer, spent]) => self.count(format!("{call}: {answer} {spent}")),
-            (_, _) => self.count(format!("{call}: {}", answers[0])),
-        }
+        answers.iter().for_each(|answer| self.count(format!("{call}: {answer}")));
+    }
+
+    /// Counts the answer and spent of a transcript's line; no mode where no mode word was accepted before it.
+    pub fn line(&mut self, mode: Option<Layer>, line: &str, answer: [u64; 2]) {
+        let mut pieces = line.split('\t');
+        let name = pieces.next().unwrap_or_default();
+        let is_number = |field: &str| field.parse::<u64>().is_ok_and(|number| number.to_string() == field);
+        let fields = pieces.clone().all(is_number).then(|| pieces.count());
+        let known = fields.filter(|fields| Layer::ALL.iter().any(|layer| layer.has(name, *fields)));
+        self.count(line_answer(mode, name, known, answer));
     }
 
     pub fn merge(&mut self, other: &Reached) {
@@ -37,14 +46,9 @@ impl Reached {
         }
     }
 
-    /// Those of the list, parted by line ends or semicolons, that were not reached.
-    pub fn missing(&self, all: &str) -> Vec<String> {
-        let rows = all.split(['\n', ';']).map(str::trim).filter(|row| !row.is_empty());
-        let answers = |row: &str| -> Vec<String> {
-            let (call, answers) = row.split_once(": ").unwrap_or((row, ""));
-            answers.split(", ").map(|answer| format!("{call}: {answer}")).collect()
-        };
-        rows.flat_map(answers).filter(|what| !self.0.contains_key(what)).collect()
+    /// Those of the list that were not reached.
+    pub fn missing<'a>(&self, all: &'a [String]) -> Vec<&'a String> {
+        all.iter().filter(|what| !self.0.contains_key(*what)).collect()
     }
 
     /// How many answers were compared.
@@ -53,55 +57,75 @@ impl Reached {
     }
 }
 
-/// Every answer and refusal of every call; a label request's answer with spent.
-pub const EVERY_CALL: &str = "
-    role set-up: 1, 12, 18, 20
-    label set-up: 1, 12, 18, 19
-    role 0: 12, 13, 15; role 11: 12, 13, 15
-    role 1: 0, 1, 12, 13, 16
-    role 2: 1, 12, 13, 16
-    role 3: 0, 1, 12, 13, 16
-    role 4: 0, 1, 12, 13, 16
-    role 5: 0, 1, 12, 13, 16
-    role 6: 0, 1, 12, 13, 16
-    role 7: 1, 12, 13, 16
-    role 8: 0, 1, 12, 13, 16
-    role 9: 1, 12, 13, 16, 17
-    role 10: 0, 1, 12, 13, 16, 17
-    label 0: 12 0, 13 0, 14 0, 15 0; label 6: 12 0, 13 0, 14 0, 15 0
-    label 1: 0 1, 1 1, 12 0, 13 0, 14 0, 16 0
-    label 2: 1 1, 12 0, 13 0, 14 0, 16 0
-    label 3: 0 1, 0 3, 1 3, 12 0, 13 0, 14 0, 16 0
-    label 4: 0 1, 1 1, 12 0, 13 0, 14 0, 16 0
-    label 5: 0 3, 1 0, 1 2, 12 0, 13 0, 14 0, 16 0
-    alike: 0, 1, 12, 13
-    permissions: 1, 12, 13, 16
-    authorised: 1, 12, 13, 16";
+/// The answer of a request, a label request's with spent; codes over the last count as one.
+fn request_answer(layer: Layer, code: u64, [answer, spent]: [u64; 2]) -> String {
+    let code = code.min(layer.codes() + 1);
+    match layer {
+        Layer::Roles => format!("role {code}: {answer}"),
+        Layer::Labels => format!("label {code}: {answer} {spent}"),
+    }
+}
 
-/// Every answer with spent of a transcript in each mode, by the word of the line.
-pub const EVERY_TRANSCRIPT: &str = "
-    roles above: 1 0, 10 0, 11 0, 19 0
-    roles permit: 1 0, 10 0, 11 0, 19 0
-    roles run: 1 0, 10 0, 11 0, 20 0
-    roles open: 0 1, 1 1, 10 0, 11 0, 16 0
-    roles close: 1 1, 10 0, 11 0, 16 0
-    roles start: 0 1, 1 1, 10 0, 11 0, 16 0
-    roles end: 0 1, 1 1, 10 0, 11 0, 16 0
-    roles activate: 0 1, 1 1, 10 0, 11 0, 16 0
-    roles drop: 0 1, 1 1, 10 0, 11 0, 16 0
-    roles assign: 1 1, 10 0, 11 0, 16 0
-    roles deassign: 0 1, 1 1, 10 0, 11 0, 16 0
-    roles grant: 1 1, 10 0, 11 0, 16 0, 17 0
-    roles revoke: 0 1, 1 1, 10 0, 11 0, 16 0, 17 0
-    roles clear: 10 0; roles label: 10 0; roles reclear: 10 0
-    roles roles: 1 0, 10 0, 11 0; roles lattice: 10 0, 11 0
-    lattice clear: 1 0, 10 0, 11 0, 19 0
-    lattice label: 1 0, 10 0, 11 0, 19 0
-    lattice run: 1 0, 10 0, 11 0
-    lattice open: 0 1, 1 1, 10 0, 11 0, 16 0
-    lattice close: 1 1, 10 0, 11 0, 16 0
-    lattice start: 0 1, 0 3, 1 3, 10 0, 11 0, 16 0
-    lattice end: 0 1, 1 1, 10 0, 11 0, 16 0
-    lattice reclear: 0 3, 1 0, 1 2, 10 0, 11 0, 16 0
-    lattice above: 10 0; lattice permit: 10 0; lattice activate: 10 0; lattice assign: 10 0; lattice grant: 10 0
-    lattice lattice: 1 0, 10 0, 11 0; lattice roles: 10 0, 11 0";
+/// The answer of a line in a mode: of a word with so many numbers, or of one that no mode has so.
+fn line_answer(mode: Option<Layer>, name: &str, fields: Option<usize>, [answer, spent]: [u64; 2]) -> String {
+    let mode = mode.map_or("no mode", Layer::mode);
+    let fields = fields.map_or("of wrong form".to_string(), |fields| format!("with {fields} fields"));
+    format!("{mode}: {name} {fields}: {answer} {spent}")
+}
+
+/// The calls that are no requests, and every answer of each.
+const OTHER_CALLS: [(&str, &[u64]); 5] = [
+    ("role set-up", &[1, 12, 18, 20]),
+    ("label set-up", &[1, 12, 18, 19]),
+    ("alike", &[0, 1, 12, 13]),
+    ("permissions", &[1, 12, 13, 16]),
+    ("authorised", &[1, 12, 13, 16]),
+];
+
+/// Every answer and refusal of every call.
+pub fn every_call() -> Vec<String> {
+    let mut all = Vec::new();
+    for (call, answers) in OTHER_CALLS {
+        all.extend(answers.iter().map(|answer| format!("{call}: {answer}")));
+    }
+    for layer in Layer::ALL {
+        let tables: &[[u64; 2]] = match layer {
+            Layer::Roles => &[[12, 0], [13, 0]],
+            Layer::Labels => &[[12, 0], [13, 0], [14, 0]],
+        };
+        for code in 0..=layer.codes() + 1 {
+            let own = layer.request(code).map_or(vec![[15, 0]], |word| [word.answers, &[[16, 0]]].concat());
+            all.extend(own.iter().chain(tables).map(|answer| request_answer(layer, code, *answer)));
+        }
+    }
+    all
+}
+
+/// Every answer with spent of every word of either mode: before a mode is chosen, and in each mode.
+pub fn every_transcript() -> Vec<String> {
+    let mut all = Vec::new();
+    for mode in [None, Some(Layer::Roles), Some(Layer::Labels)] {
+        for layer in Layer::ALL {
+            let answer = if mode.is_none() { [1, 0] } else { [11, 0] };
+            all.push(line_answer(mode, layer.mode(), Some(0), answer));
+            all.push(line_answer(mode, layer.mode(), None, [10, 0]));
+            for word in layer.words() {
+                let answer = |answer| line_answer(mode, word.name, Some(word.fields.len()), answer);
+                if mode == Some(layer) {
+                    all.extend(answers(word).into_iter().map(answer));
+                    all.push(line_answer(mode, word.name, None, [10, 0]));
+                } else if !mode.is_some_and(|mode| mode.has(word.name, word.fields.len())) {
+                    all.push(answer([10, 0]));
+                }
+            }
+        }
+    }
+    all
+}
+
+/// Every answer of a word of the mode in its form: its own, out of place, and with values out of range.
+fn answers(word: &Word) -> Vec<[u64; 2]> {
+    let out_of_range = if word.code.is_some() { [16, 0] } else { [19, 0] };
+    let range: &[[u64; 2]] = if word.fields.is_empty() { &[] } else { &[out_of_range] };
+    [word.answers, &[[11, 0]], range].concat()
+}

@@ -6,16 +6,16 @@ use crate::reached::Reached;
 use crate::shrink::{shrink, simplify};
 
 /// What one guard has made of the steps so far.
-struct Run {
-    table: Vec<u64>,
+pub struct Run {
+    pub table: Vec<u64>,
     kept: Vec<u64>,
 }
 
 /// What a step answered: the number, spent, and the words that a reading wrote.
 #[derive(Debug, PartialEq, Eq)]
-struct Reply {
-    answers: Vec<u64>,
-    words: Vec<u64>,
+pub struct Reply {
+    pub answers: Vec<u64>,
+    pub words: Vec<u64>,
 }
 
 impl Reply {
@@ -25,14 +25,17 @@ impl Reply {
 }
 
 /// Lent words that a reading has to overwrite, or to leave where it is refused.
-const LENT: u64 = 0x5555_aaaa_5555_aaaa;
+pub const LENT: u64 = 0x5555_aaaa_5555_aaaa;
 
-impl Run {
-    fn new() -> Run {
+impl Default for Run {
+    fn default() -> Run {
         Run { table: vec![0; 968], kept: vec![0; 968] }
     }
+}
 
-    fn step(&mut self, guard: &Guard, step: &Step) -> Option<Reply> {
+impl Run {
+    /// Carries out a step; no reply where no guard takes part in it.
+    pub fn step(&mut self, guard: &Guard, step: &Step) -> Option<Reply> {
         let table = &mut self.table;
         Some(match step {
             Step::RoleSetup { juniors, permissions } => Reply::number((guard.role_setup)(table, juniors, permissions)),
@@ -77,8 +80,8 @@ impl Run {
 
 /// Carries the case out on the second implementation and the guards; the first difference, in words.
 pub fn compare(case: &Case, guards: &[Guard], reached: &mut Reached) -> Result<(), String> {
-    let mut expected = Run::new();
-    let mut runs: Vec<Run> = guards.iter().map(|_| Run::new()).collect();
+    let mut expected = Run::default();
+    let mut runs: Vec<Run> = guards.iter().map(|_| Run::default()).collect();
     for (at, step) in case.0.iter().enumerate() {
         let reply = expected.step(&REFERENCE, step);
         if let Some(reply) = &reply {

@@ -2,25 +2,9 @@
 //! can say stands on lines of its own, which begin with an exclamation mark.
 
 use crate::case::{Case, Step};
+use crate::words::Layer;
 use std::fmt::{self, Display, Formatter};
 use std::str::FromStr;
-
-/// The words of the role requests and their numbers of fields, by code from 1 on.
-pub const ROLE_WORDS: [(&str, usize); 10] = [
-    ("open", 3),
-    ("close", 3),
-    ("start", 2),
-    ("end", 1),
-    ("activate", 2),
-    ("drop", 2),
-    ("assign", 2),
-    ("deassign", 2),
-    ("grant", 3),
-    ("revoke", 3),
-];
-
-/// The words of the label requests.
-pub const LABEL_WORDS: [(&str, usize); 5] = [("open", 3), ("close", 3), ("start", 3), ("end", 1), ("reclear", 2)];
 
 /// The members of a word.
 pub fn members(word: u64) -> impl Iterator<Item = u64> {
@@ -35,7 +19,7 @@ pub fn setup_lines(step: &Step) -> Option<Vec<String>> {
                 let row = |(at, set): (usize, &u64)| members(*set).map(move |member| format!("{word}\t{at}\t{member}"));
                 list.iter().enumerate().flat_map(row).collect()
             };
-            Some([vec!["roles".to_string()], rows("above", juniors), rows("permit", permissions)].concat())
+            Some([vec![Layer::Roles.mode().to_string()], rows("above", juniors), rows("permit", permissions)].concat())
         }
         Step::LabelSetup { clearances, labels } if (clearances.len(), labels.len()) == (64, 64) => {
             let rows = |word: &'static str, list: &[u8]| -> Vec<String> {
@@ -43,18 +27,20 @@ pub fn setup_lines(step: &Step) -> Option<Vec<String>> {
                 named.map(|(at, label)| format!("{word}\t{at}\t{label}")).collect()
             };
             let fits = clearances.iter().chain(labels).all(|label| *label < 32);
-            fits.then(|| [vec!["lattice".to_string()], rows("clear", clearances), rows("label", labels)].concat())
+            fits.then(|| {
+                [vec![Layer::Labels.mode().to_string()], rows("clear", clearances), rows("label", labels)].concat()
+            })
         }
         _ => None,
     }
 }
 
 /// A request as a line, where it has a word and every argument that is not listed is 0.
-fn request_line(words: &[(&str, usize)], [code, a, b, c]: [u64; 4]) -> Option<String> {
-    let (word, count) = words.get(code.checked_sub(1)? as usize)?;
+fn request_line(layer: Layer, [code, a, b, c]: [u64; 4]) -> Option<String> {
+    let word = layer.request(code)?;
     let arguments = [a, b, c];
-    let (listed, unlisted) = arguments.split_at(*count);
-    unlisted.iter().all(|argument| *argument == 0).then(|| tabbed(word, listed))
+    let (listed, unlisted) = arguments.split_at(word.fields.len());
+    unlisted.iter().all(|argument| *argument == 0).then(|| tabbed(word.name, listed))
 }
 
 fn tabbed<T: Display>(word: &str, numbers: &[T]) -> String {
@@ -86,8 +72,8 @@ impl Display for Case {
         for (at, step) in self.0.iter().enumerate() {
             let line = match (mode, step) {
                 (Some(first), _) if at == 0 => setup_lines(first).map(|lines| lines.join("\n") + "\nrun"),
-                (Some(Step::RoleSetup { .. }), Step::Role(ask)) => request_line(&ROLE_WORDS, *ask),
-                (Some(Step::LabelSetup { .. }), Step::Label(ask)) => request_line(&LABEL_WORDS, *ask),
+                (Some(Step::RoleSetup { .. }), Step::Role(ask)) => request_line(Layer::Roles, *ask),
+                (Some(Step::LabelSetup { .. }), Step::Label(ask)) => request_line(Layer::Labels, *ask),
                 _ => None,
             };
             writeln!(out, "{}", line.unwrap_or_else(|| raw_line(step)))?;
@@ -102,8 +88,8 @@ impl FromStr for Case {
     fn from_str(text: &str) -> Result<Case, String> {
         let mut lines = text.lines().peekable();
         let mut steps = Vec::new();
-        let mode = lines.peek().copied().unwrap_or_default();
-        if mode == "roles" || mode == "lattice" {
+        let mode = lines.peek().copied().and_then(Layer::of_mode);
+        if let Some(mode) = mode {
             let setup = lines.by_ref().skip(1).take_while(|line| *line != "run").map(parse_line);
             steps.push(read_setup(mode, &setup.collect::<Result<Vec<_>, _>>()?)?);
         }
@@ -127,38 +113,48 @@ fn parse_line(line: &str) -> Result<(&str, Vec<u64>), String> {
 /// Stands for the slash between two lists; no value of a set-up that is printed so.
 const SLASH: u64 = 0x2f2f_2f2f_2f2f_2f2f;
 
-fn read_setup(mode: &str, lines: &[(&str, Vec<u64>)]) -> Result<Step, String> {
-    let (mut first, mut second) = (vec![0; 64], vec![0; if mode == "roles" { 8 } else { 64 }]);
+/// A set-up from its lines; the mode's first word fills the first list, its second word the second.
+fn read_setup(mode: Layer, lines: &[(&str, Vec<u64>)]) -> Result<Step, String> {
+    let (mut first, mut second) = (vec![0; 64], vec![0; if mode == Layer::Roles { 8 } else { 64 }]);
     for (word, numbers) in lines {
-        let [at, value] = numbers[..] else {
+        let list = match mode.words().iter().position(|found| found.name == *word) {
+            Some(0) => &mut first,
+            Some(1) => &mut second,
+            _ => return Err(format!("no set-up line: {word}")),
+        };
+        let &[at, value @ 0..=63] = &numbers[..] else {
             return Err(format!("no set-up line: {word} {numbers:?}"));
         };
-        let list = if matches!(*word, "above" | "clear") { &mut first } else { &mut second };
         let place = list.get_mut(at as usize).ok_or_else(|| format!("out of range: {word} {at}"))?;
-        *place = if mode == "roles" { *place | 1 << (value % 64) } else { value };
+        *place = if mode == Layer::Roles { *place | 1 << value } else { value };
     }
-    Ok(setup_step(mode == "roles", first, second))
+    Ok(setup_step(mode, first, second))
 }
 
-fn setup_step(roles: bool, first: Vec<u64>, second: Vec<u64>) -> Step {
-    if roles {
+fn setup_step(layer: Layer, first: Vec<u64>, second: Vec<u64>) -> Step {
+    if layer == Layer::Roles {
         return Step::RoleSetup { juniors: first, permissions: second };
     }
     let bytes = |list: Vec<u64>| list.into_iter().map(|value| value as u8).collect();
     Step::LabelSetup { clearances: bytes(first), labels: bytes(second) }
 }
 
-fn read_step(mode: &str, word: &str, numbers: &[u64]) -> Option<Step> {
-    let words: &[(&str, usize)] = if mode == "roles" { &ROLE_WORDS } else { &LABEL_WORDS };
-    if let Some(code) = words.iter().position(|(name, _)| *name == word) {
-        let argument = |at: usize| numbers.get(at).copied().unwrap_or(0);
-        let ask = [code as u64 + 1, argument(0), argument(1), argument(2)];
-        return Some(if mode == "roles" { Step::Role(ask) } else { Step::Label(ask) });
+/// A request of the mode with its number of fields.
+fn read_request(mode: Layer, word: &str, numbers: &[u64]) -> Option<Step> {
+    let code = mode.word(word, numbers.len())?.code?;
+    let argument = |at: usize| numbers.get(at).copied().unwrap_or(0);
+    Some(Step::request(mode, [code, argument(0), argument(1), argument(2)]))
+}
+
+fn read_step(mode: Option<Layer>, word: &str, numbers: &[u64]) -> Option<Step> {
+    if let Some(step) = mode.and_then(|mode| read_request(mode, word, numbers)) {
+        return Some(step);
     }
     Some(match (word, numbers) {
         ("!role-setup" | "!label-setup", _) => {
             let at = numbers.iter().position(|number| *number == SLASH)?;
-            setup_step(word == "!role-setup", numbers[..at].to_vec(), numbers[at + 1..].to_vec())
+            let layer = if word == "!role-setup" { Layer::Roles } else { Layer::Labels };
+            setup_step(layer, numbers[..at].to_vec(), numbers[at + 1..].to_vec())
         }
         ("!role", _) => Step::Role(numbers.try_into().ok()?),
         ("!label", _) => Step::Label(numbers.try_into().ok()?),

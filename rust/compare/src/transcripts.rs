@@ -1,10 +1,10 @@
 //! Whole transcripts: random ones with faulty lines among good ones, and their output by several programs.
 
-use crate::generate::{requests, Layer};
+use crate::generate::requests;
 use crate::random::Random;
 use crate::reached::Reached;
 use crate::shrink::shrink;
-use crate::text::{LABEL_WORDS, ROLE_WORDS};
+use crate::words::Layer;
 use std::io::{self, Read, Write};
 use std::path::PathBuf;
 use std::process::{Command, Stdio};
@@ -99,15 +99,17 @@ pub fn difference(input: &[u8], readers: &[Reader]) -> Option<String> {
     })
 }
 
-/// Counts each answer under the transcript's mode and the line's word.
+/// Counts the answer of each line that is ended by a newline, under the mode that was chosen before it.
 fn count(input: &[u8], reached: &mut Reached) {
     let output = reference::transcript::transcript(input);
-    let lines = || input.split(|byte| *byte == b'\n').map(String::from_utf8_lossy);
-    let mode = lines().find(|line| line == "roles" || line == "lattice").unwrap_or_default();
-    for (line, result) in lines().zip(output.lines().skip(1)) {
-        let word = line.split('\t').next().unwrap_or_default();
-        let answer = result.split_once('\t').map_or("", |(_, answer)| answer).replace('\t', " ");
-        reached.count(format!("{mode} {word}: {answer}"));
+    let mut mode = None;
+    for (line, result) in input.split_inclusive(|byte| *byte == b'\n').zip(output.lines().skip(1)) {
+        let numbers: Vec<u64> = result.split('\t').filter_map(|number| number.parse().ok()).collect();
+        if let (Some(line), &[_, answer, spent]) = (line.strip_suffix(b"\n"), &numbers[..]) {
+            let line = String::from_utf8_lossy(line);
+            reached.line(mode, &line, [answer, spent]);
+            mode = mode.or(Layer::of_mode(&line));
+        }
     }
 }
 
@@ -122,7 +124,7 @@ pub fn random_transcript(random: &mut Random) -> Vec<u8> {
     if random.chance(80) {
         let misplaced = 1 + random.below(8);
         for _ in 0..misplaced {
-            let at = random.below(lines.len() as u64 + 1) as usize;
+            let at = if random.chance(15) { 0 } else { random.below(lines.len() as u64 + 1) as usize };
             lines.insert(at, misplaced_line(random).into_bytes());
         }
         for line in &mut lines {
@@ -158,18 +160,17 @@ fn add_cycle(random: &mut Random, lines: &mut Vec<Vec<u8>>) {
 
 /// A line of either mode, with values in range, at its limit or out of it.
 fn misplaced_line(random: &mut Random) -> String {
-    let setup = [("roles", 0), ("lattice", 0), ("run", 0), ("above", 2), ("permit", 2), ("clear", 2), ("label", 2)];
-    let (word, count) = match random.below(4) {
-        0 => random.one(&ROLE_WORDS),
-        1 => random.one(&LABEL_WORDS),
-        _ => random.one(&setup),
-    };
+    let layer = random.one(&Layer::ALL);
+    if random.chance(15) {
+        return layer.mode().to_string();
+    }
+    let word = random.one(layer.words());
     let largest = [0, 1, 7, 8, 31, 32, 63, 64, 256, u64::MAX];
-    let fields = (0..count).map(|_| match random.below(2) {
+    let fields = word.fields.iter().map(|_| match random.below(2) {
         0 => random.below(8),
         _ => random.one(&largest),
     });
-    fields.fold(word.to_string(), |line, field| format!("{line}\t{field}"))
+    fields.fold(word.name.to_string(), |line, field| format!("{line}\t{field}"))
 }
 
 /// Fields that are no numbers, or hardly are.

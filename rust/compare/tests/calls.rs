@@ -1,9 +1,11 @@
 //! The calls of every guard, held to the second implementation on random cases.
 
 use compare::{
-    check, damage_everywhere, damaged, likeness, requests, set_ups, Case, Guard, Layer, Random, Reached, EVERY_CALL,
+    check, damage_everywhere, damaged, every_call, likeness, requests, set_ups, Case, Guard, Layer, Random, Reached,
     GUARDS, REFERENCE,
 };
+
+const _: () = assert!(!reference::WRONG, "tests are built without a wrong turn");
 
 /// Compares each case, and fails with the first that tells two guards apart.
 fn compare_all(cases: impl Iterator<Item = Case>) -> Reached {
@@ -21,7 +23,7 @@ fn some(seed: u64, count: usize, make: fn(&mut Random) -> Case) -> Reached {
     compare_all((0..count).map(|_| make(&mut random)))
 }
 
-fn require(reached: &Reached, all: &str) {
+fn require(reached: &Reached, all: &[String]) {
     let missing = reached.missing(all);
     assert!(missing.is_empty(), "not reached: {missing:?}");
     println!("{} answers compared", reached.total());
@@ -40,27 +42,29 @@ fn every_call_and_every_answer() {
             reached.merge(&part.join().unwrap_or_else(|failure| std::panic::resume_unwind(failure)));
         }
     });
-    require(&reached, EVERY_CALL);
+    require(&reached, &every_call());
+}
+
+/// Every word of a table of a layer damaged: refusals 13 and 14 are reached.
+fn damage_every_word(seed: u64, layer: Layer) {
+    let reached = compare_all(damage_everywhere(&mut Random::new(seed), layer).into_iter());
+    require(&reached, &["role 1: 13", "label 1: 13 0", "label 1: 14 0"].map(String::from));
 }
 
 #[test]
 fn every_word_of_a_role_table_damaged() {
-    let mut random = Random::new(6);
-    let reached = compare_all(damage_everywhere(&mut random, Layer::Roles).into_iter());
-    require(&reached, "role 1: 13; label 1: 13 0, 14 0");
+    damage_every_word(6, Layer::Roles);
 }
 
 #[test]
 fn every_word_of_a_label_table_damaged() {
-    let mut random = Random::new(7);
-    let reached = compare_all(damage_everywhere(&mut random, Layer::Labels).into_iter());
-    require(&reached, "role 1: 13; label 1: 13 0, 14 0");
+    damage_every_word(7, Layer::Labels);
 }
 
 /// What the readings answer and write where they are lent too few words or too many.
 fn readings(guard: &Guard) -> Vec<(u64, Vec<u64>)> {
     let mut table = [0; 968];
-    (guard.role_setup)(&mut table, &[0; 64], &[0; 8]);
+    assert_eq!((guard.role_setup)(&mut table, &[0; 64], &[0; 8]), 1);
     let permissions = [0, 1, 7, 9].map(|length| {
         let mut masks = vec![7; length];
         ((guard.effective_permissions)(&table, 0, &mut masks), masks)

@@ -1,6 +1,9 @@
 //! Whole transcripts, held to the output of the second implementation.
 
-use compare::{check_transcript, random_transcript, readers, Random, Reached, EVERY_TRANSCRIPT};
+use compare::{check_transcript, every_transcript, random_transcript, readers, Random, Reached};
+use reference::transcript::transcript;
+
+const _: () = assert!(!reference::WRONG, "tests are built without a wrong turn");
 
 #[test]
 fn every_line_and_every_answer() {
@@ -11,24 +14,58 @@ fn every_line_and_every_answer() {
             panic!("{difference}");
         }
     }
-    let missing = reached.missing(EVERY_TRANSCRIPT);
+    let every = every_transcript();
+    let missing = reached.missing(&every);
     assert!(missing.is_empty(), "not reached: {missing:?}");
     println!("{} lines compared", reached.total());
 }
 
-#[test]
-fn the_ends_of_an_input() {
-    let readers = readers();
-    let inputs: [&[u8]; 8] = [b"", b"\n", b"\n\n", b"roles", b"roles\n", b"roles\nrun", b"roles\nrun\n", b"\0\n\xff"];
-    for input in inputs {
-        assert_eq!(check_transcript(input, &readers, &mut Reached::default()), Ok(()));
-    }
+/// Holds the second implementation to an output, and every reader to the second implementation.
+fn check_output(input: &[u8], output: &str) {
+    assert_eq!(transcript(input), output);
+    assert_eq!(check_transcript(input, &readers(), &mut Reached::default()), Ok(()));
 }
 
 #[test]
 fn the_listing_of_the_scope() {
-    let listing = "lattice\nclear 4 17\nlabel 7 9\nlabel 8 25\nrun\nstart 2 4 17\nopen 2 7 0\nopen 2 7 1\nopen 2 8 1\n\
-                   start 3 4 18\nreclear 4 9\nend 2\nreclear 4 9\n";
-    let input = listing.replace(' ', "\t");
-    assert_eq!(check_transcript(input.as_bytes(), &readers(), &mut Reached::default()), Ok(()));
+    let input = "lattice\nclear 4 17\nlabel 7 9\nlabel 8 25\nrun\nstart 2 4 17\nopen 2 7 0\nopen 2 7 1\nopen 2 8 1\n\
+                 start 3 4 18\nreclear 4 9\nend 2\nreclear 4 9\n";
+    let output = "line answer spent\n1 1 0\n2 1 0\n3 1 0\n4 1 0\n5 1 0\n6 1 3\n7 1 1\n8 0 1\n9 1 1\n10 0 3\n11 0 3\n\
+                  12 1 1\n13 1 2\n";
+    check_output(input.replace(' ', "\t").as_bytes(), &output.replace(' ', "\t"));
+}
+
+/// Lines that are accepted or refused, none of which spends anything.
+#[test]
+fn forms_and_places() {
+    let long = format!("roles\n{}\n", "x".repeat(500));
+    let inputs: [(&[u8], &[u64]); 17] = [
+        (b"", &[]),
+        (b"\n", &[10]),
+        (b"\n\n", &[10, 10]),
+        (b"\0\n\xff", &[10, 10]),
+        (b"roles", &[10]),
+        (b"roles\n", &[1]),
+        (b"roles\nrun", &[1, 10]),
+        (b"roles\nrun\n", &[1, 1]),
+        (b"roles\nrun\nend\t0", &[1, 1, 10]),
+        (b"run\nroles\nroles\n", &[10, 1, 11]),
+        (b"roles\t\nroles\t0\nroles\n\nlattice\n", &[10, 10, 1, 10, 11]),
+        (b"roles\npermit\t0\t0\nclear\t0\t0\nopen\t0\t0\t0\nrun\nrun\npermit\t0\t0\n", &[1, 1, 10, 11, 1, 11, 11]),
+        (
+            b"roles\nabove\t1\t1\nabove\t1\t2\nabove\t2\t1\nrun\nopen\t0\t0\t0\nabove\t64\t0\nrun\n",
+            &[1, 1, 1, 1, 20, 11, 19, 20],
+        ),
+        (b"lattice\nlabel\t0\t256\nlabel\t0\t18446744073709551615\nlabel\t0\t18446744073709551616\n", &[1, 19, 19, 10]),
+        (b"lattice\nlabel\t00\t0\nlabel\t+1\t0\nlabel\t\t0\nlabel 0 0\nlabel\t0\t0\r\n", &[1, 10, 10, 10, 10, 10]),
+        (
+            b"lattice\nrun\nstart\t0\t0\nopen\t0\t0\t2\nopen\t18446744073709551615\t0\t0\nactivate\t0\t0\n",
+            &[1, 1, 10, 16, 16, 10],
+        ),
+        (long.as_bytes(), &[1, 10]),
+    ];
+    for (input, answers) in inputs {
+        let rows = answers.iter().enumerate().map(|(at, answer)| format!("{}\t{answer}\t0\n", at + 1));
+        check_output(input, &format!("line\tanswer\tspent\n{}", rows.collect::<String>()));
+    }
 }

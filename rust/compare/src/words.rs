@@ -1,0 +1,121 @@
+//! The words of a transcript in each mode, after the scope's tables: what a word's fields name, the code of a request, and
+//! the answers. What has to be reached (`every_call`, `every_transcript`) is derived from this one list.
+
+/// The layer that a table is set up for; in a transcript the mode.
+#[derive(Clone, Copy, Debug, PartialEq, Eq)]
+pub enum Layer {
+    Roles,
+    Labels,
+}
+
+/// What a field names.
+#[derive(Clone, Copy, Debug, PartialEq, Eq)]
+pub enum Field {
+    User,
+    Role,
+    Session,
+    Object,
+    Mode,
+    /// A mode of the label layer, 0 or 1.
+    LabelMode,
+    Label,
+}
+
+/// A word of a mode.
+#[derive(Clone, Copy, Debug)]
+pub struct Word {
+    pub name: &'static str,
+    pub fields: &'static [Field],
+    /// The code of a request; none for a word of the set-up.
+    pub code: Option<u64>,
+    /// The answers with spent where the line is in place and its values are in range.
+    pub answers: &'static [[u64; 2]],
+}
+
+const fn set_up(name: &'static str, fields: &'static [Field], answers: &'static [[u64; 2]]) -> Word {
+    Word { name, fields, code: None, answers }
+}
+
+const fn request(code: u64, name: &'static str, fields: &'static [Field], answers: &'static [[u64; 2]]) -> Word {
+    Word { name, fields, code: Some(code), answers }
+}
+
+const ACCEPTED: [u64; 2] = [1, 0];
+const CYCLE: [u64; 2] = [20, 0];
+const NO: [u64; 2] = [0, 1];
+const YES: [u64; 2] = [1, 1];
+const NO_PERMISSION: [u64; 2] = [17, 0];
+
+use Field::{Label, LabelMode, Mode, Object, Role, Session, User};
+
+const ROLES: [Word; 13] = [
+    set_up("above", &[Role, Role], &[ACCEPTED]),
+    set_up("permit", &[Mode, Object], &[ACCEPTED]),
+    set_up("run", &[], &[ACCEPTED, CYCLE]),
+    request(1, "open", &[Session, Object, Mode], &[NO, YES]),
+    request(2, "close", &[Session, Object, Mode], &[YES]),
+    request(3, "start", &[Session, User], &[NO, YES]),
+    request(4, "end", &[Session], &[NO, YES]),
+    request(5, "activate", &[Session, Role], &[NO, YES]),
+    request(6, "drop", &[Session, Role], &[NO, YES]),
+    request(7, "assign", &[User, Role], &[YES]),
+    request(8, "deassign", &[User, Role], &[NO, YES]),
+    request(9, "grant", &[Role, Mode, Object], &[YES, NO_PERMISSION]),
+    request(10, "revoke", &[Role, Mode, Object], &[NO, YES, NO_PERMISSION]),
+];
+
+const LABELS: [Word; 8] = [
+    set_up("clear", &[User, Label], &[ACCEPTED]),
+    set_up("label", &[Object, Label], &[ACCEPTED]),
+    set_up("run", &[], &[ACCEPTED]),
+    request(1, "open", &[Session, Object, LabelMode], &[NO, YES]),
+    request(2, "close", &[Session, Object, LabelMode], &[YES]),
+    request(3, "start", &[Session, User, Label], &[NO, [0, 3], [1, 3]]),
+    request(4, "end", &[Session], &[NO, YES]),
+    request(5, "reclear", &[User, Label], &[[0, 3], [1, 0], [1, 2]]),
+];
+
+impl Layer {
+    pub const ALL: [Layer; 2] = [Layer::Roles, Layer::Labels];
+
+    /// The mode word.
+    pub fn mode(self) -> &'static str {
+        match self {
+            Layer::Roles => "roles",
+            Layer::Labels => "lattice",
+        }
+    }
+
+    /// The layer of a mode word.
+    pub fn of_mode(word: &str) -> Option<Layer> {
+        Layer::ALL.into_iter().find(|layer| layer.mode() == word)
+    }
+
+    /// The words of the mode beside the mode words.
+    pub fn words(self) -> &'static [Word] {
+        match self {
+            Layer::Roles => &ROLES,
+            Layer::Labels => &LABELS,
+        }
+    }
+
+    /// How many requests there are; their codes are from 1 on.
+    pub fn codes(self) -> u64 {
+        self.words().iter().filter(|word| word.code.is_some()).count() as u64
+    }
+
+    /// The request of a code.
+    pub fn request(self, code: u64) -> Option<&'static Word> {
+        self.words().iter().find(|word| word.code == Some(code))
+    }
+
+    /// The word of a name with so many fields.
+    pub fn word(self, name: &str, fields: usize) -> Option<&'static Word> {
+        self.words().iter().find(|word| (word.name, word.fields.len()) == (name, fields))
+    }
+
+    /// Whether a name with so many fields is a word of the mode; the mode words are.
+    pub fn has(self, name: &str, fields: usize) -> bool {
+        self.word(name, fields).is_some() || fields == 0 && Layer::of_mode(name).is_some()
+    }
+}
