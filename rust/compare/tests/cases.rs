@@ -1,0 +1,239 @@
+//! Fixed cases on the second implementation and on every guard that is held to it: the rows of the program `cases`
+//! (`crates/cases`), whose expected output is the list of answers here too, and the points of bench case J.
+
+use compare::{compare, Case, Guard, Reached, Run, Step, GUARDS, LENT, REFERENCE};
+use reference::Label;
+
+const _: () = assert!(!reference::WRONG, "tests are built without a wrong turn");
+
+/// What the program `cases` writes: a row's number, its answer and what it spent.
+const EXPECTED: &str = include_str!("../../../crates/cases/stdout");
+
+/// Rows from 100: a role set-up, bench cases A to H, and the sessions of J.
+const BENCH: &str = "
+    roles; above 5 3; above 3 1; permit 0 9; run
+    grant 1 0 9; grant 1 1 9
+    start 0 2; start 0 2
+    assign 2 3; activate 0 5; activate 0 1; activate 0 3
+    open 0 9 0
+    drop 0 1; drop 0 3
+    deassign 2 3; assign 2 5; deassign 2 3
+    revoke 1 0 9; grant 3 0 9; revoke 1 0 9
+    close 5 9 0; open 5 9 0
+    start 31 2; start 32 2";
+
+/// Rows from 200: the state of source 000, section 2.
+const SOURCE: &str = "
+    roles; above 1 2; above 3 4; permit 0 1; permit 0 2; permit 1 1; permit 1 2; run
+    assign 1 1; assign 2 2; assign 3 3
+    grant 1 0 1; grant 2 0 2; grant 3 1 2; grant 4 1 1
+    start 1 1; start 2 1; start 3 2; start 4 3
+    activate 1 1; activate 2 1; activate 4 4";
+
+/// The rows after them: what follows from the source's definitions.
+const DERIVED: &str = "
+    open 1 1 0; open 1 2 0; open 1 1 1; open 3 2 0; open 4 1 1; open 4 2 1
+    activate 3 1; drop 3 1; activate 3 2; open 3 2 0; activate 4 3; open 4 2 1
+    drop 4 4; drop 4 3; revoke 2 0 2; grant 1 0 2; revoke 2 0 2
+    drop 1 1; deassign 1 1; assign 1 2; deassign 1 1; close 1 1 0; drop 1 1; close 1 2 0; drop 1 1
+    deassign 1 1; drop 2 1; deassign 1 1
+    drop 9 1; open 9 1 0; close 9 1 0; grant 1 2 1";
+
+/// Rows from 300: the scope's listing, and label 32 in requests.
+const LISTING: &str = "
+    lattice; clear 4 17; label 7 9; label 8 25; run
+    start 2 4 17; open 2 7 0; open 2 7 1; open 2 8 1; start 3 4 18; reclear 4 9; end 2; reclear 4 9
+    reclear 4 32; start 0 4 32";
+
+/// Rows from 400: a session at level 9 beside labels 9 and 10.
+const CONFUSED: &str = "
+    lattice; clear 0 9; label 1 9; label 2 10; run
+    start 0 0 9; open 0 1 0; open 0 2 1; open 0 1 1";
+
+/// Rows from 501: does the first label dominate the second?
+const PAIRS: [(u64, u64); 10] =
+    [(9, 10), (10, 9), (10, 1), (1, 10), (9, 1), (17, 18), (18, 17), (31, 0), (0, 31), (0, 0)];
+
+/// Rows from 601: 967 words, 969 words, and label 32 in each list of a set-up.
+fn refused() -> Case {
+    Case(vec![
+        Step::Length(967),
+        Step::Role([4, 0, 0, 0]),
+        Step::Length(969),
+        Step::Role([4, 0, 0, 0]),
+        Step::Length(968),
+        Step::LabelSetup { clearances: vec![32; 64], labels: vec![0; 64] },
+        Step::LabelSetup { clearances: vec![0; 64], labels: vec![32; 64] },
+    ])
+}
+
+/// The second implementation and every guard that is held to it.
+fn guards() -> impl Iterator<Item = &'static Guard> {
+    [&REFERENCE].into_iter().chain(GUARDS)
+}
+
+/// Lines with blanks for tabs, parted by line ends or semicolons.
+fn lines(text: &str) -> impl Iterator<Item = &str> {
+    text.split(['\n', ';']).map(str::trim).filter(|line| !line.is_empty())
+}
+
+/// The case of such lines.
+fn case(text: &str) -> Case {
+    let tabbed: String = lines(text).map(|line| line.replace(' ', "\t") + "\n").collect();
+    tabbed.parse().expect("the lines are a set-up and requests of its mode")
+}
+
+/// Answer and spent of each call of a case. Whatever is not answered yes leaves every word.
+fn play(case: &Case, guard: &Guard) -> Vec<[u64; 2]> {
+    let mut run = Run::default();
+    let mut rows = Vec::new();
+    for step in &case.0 {
+        let before = run.table.clone();
+        let Some(reply) = run.step(guard, step) else { continue };
+        let answer = reply.answers[0];
+        assert!(answer == 1 || run.table == before, "{step:?} changes the table of the {}", guard.name);
+        let spent = match step {
+            Step::Role(_) => u64::from(answer < 2),
+            _ => reply.answers.get(1).copied().unwrap_or(0),
+        };
+        rows.push([answer, spent]);
+    }
+    rows
+}
+
+/// Rows as the program writes them.
+fn numbered(first: u64, rows: Vec<[u64; 2]>) -> impl Iterator<Item = String> {
+    (first..).zip(rows).map(|(number, [answer, spent])| format!("{number}\t{answer}\t{spent}"))
+}
+
+#[test]
+fn rows_of_the_program_cases() {
+    let source = [SOURCE, DERIVED].join("\n");
+    let played = [(100, case(BENCH)), (200, case(&source)), (300, case(LISTING)), (400, case(CONFUSED))];
+    // no call compares labels: these rows are the second implementation's alone
+    let label = |number| Label::of(number).expect("a label is below 32");
+    let compared = PAIRS.map(|(a, b)| [u64::from(label(a).dominates(label(b))), 0]);
+    for guard in guards() {
+        let mut rows: Vec<String> = Vec::new();
+        for (first, case) in &played {
+            rows.extend(numbered(*first, play(case, guard)));
+        }
+        rows.extend(numbered(501, compared.to_vec()));
+        rows.extend(numbered(601, play(&refused(), guard)));
+        for (row, expected) in rows.iter().zip(EXPECTED.lines()) {
+            assert_eq!(row, expected, "{}", guard.name);
+        }
+        assert_eq!(rows.len(), EXPECTED.lines().count(), "{}", guard.name);
+    }
+    for (_, case) in &played {
+        assert_eq!(compare(case, GUARDS, &mut Reached::default()), Ok(()));
+    }
+}
+
+/// The authorised roles of users and the effective permissions of sessions that source 000 prints, and those of a user and
+/// a session that it does not name.
+#[test]
+fn sets_of_the_source() {
+    for guard in guards() {
+        let mut run = Run::default();
+        for step in &case(SOURCE).0 {
+            assert_eq!(run.step(guard, step).map(|reply| reply.answers), Some(vec![1]), "{step:?}");
+        }
+        let mut read = |step| run.step(guard, &step).map(|reply| (reply.answers, reply.words));
+        for (user, roles) in [(1, 6), (2, 4), (3, 24), (4, 0)] {
+            assert_eq!(read(Step::Authorised(user)), Some((vec![1], vec![roles])), "user {user}, {}", guard.name);
+        }
+        for (session, reads, writes) in [(1, 6, 0), (2, 6, 0), (3, 0, 0), (4, 0, 2), (5, 0, 0)] {
+            let masks = vec![reads, writes, 0, 0, 0, 0, 0, 0];
+            assert_eq!(read(Step::Permissions(session)), Some((vec![1], masks)), "session {session}, {}", guard.name);
+        }
+    }
+}
+
+/// Plays lines on every guard; a call stands with its answer, as `start 31 0: 1`.
+fn expect(text: &str) {
+    let asked = lines(text).map(|line| line.split_once(": ").map_or(line, |(asked, _)| asked));
+    let case = case(&asked.collect::<Vec<&str>>().join("\n"));
+    let answers = lines(text).filter_map(|line| Some(line.split_once(": ")?.1.parse::<u64>().expect("a number")));
+    // the set-up is one call
+    let expected: Vec<u64> = [1].into_iter().chain(answers).collect();
+    for guard in guards() {
+        let played: Vec<u64> = play(&case, guard).iter().map(|[answer, _]| *answer).collect();
+        assert_eq!(played, expected, "{text} by the {}", guard.name);
+    }
+}
+
+#[test]
+fn case_j_session_32() {
+    expect(
+        "roles; permit 0 0; run
+         start 31 0: 1; start 32 0: 16
+         activate 31 0: 0; activate 32 0: 16
+         open 31 0 0: 0; open 32 0 0: 16
+         drop 31 0: 1; drop 32 0: 16
+         close 31 0 0: 1; close 32 0 0: 16
+         !permissions 31: 1; !permissions 32: 16
+         end 31: 1; end 32: 16",
+    );
+    expect(
+        "lattice; run
+         start 31 0 0: 1; start 32 0 0: 16
+         open 31 0 0: 1; open 32 0 0: 16
+         close 31 0 0: 1; close 32 0 0: 16
+         !permissions 31: 1; !permissions 32: 16
+         end 31: 1; end 32: 16",
+    );
+}
+
+#[test]
+fn case_j_label_32() {
+    expect("lattice; run; reclear 0 31: 1; reclear 0 32: 16; start 0 0 32: 16; start 0 0 31: 1");
+    for guard in guards() {
+        for place in [0, 63] {
+            let list = |label| {
+                let mut list = vec![0; 64];
+                list[place] = label;
+                list
+            };
+            let set_up = |clearance, label| Step::LabelSetup { clearances: list(clearance), labels: list(label) };
+            let case = Case(vec![set_up(31, 31), set_up(32, 31), set_up(31, 32), set_up(31, 31)]);
+            assert_eq!(play(&case, guard), [[1, 0], [19, 0], [19, 0], [1, 0]], "place {place}, {}", guard.name);
+        }
+    }
+}
+
+/// Every call that takes a table, with its answers (and spent) on 968 words and on another number of words. Likeness
+/// answers for the table as the second and as the first.
+fn calls() -> [(Step, Vec<u64>, Vec<u64>); 7] {
+    [
+        (Step::Role([2, 0, 0, 0]), vec![1], vec![12]),
+        (Step::Label([2, 0, 0, 0]), vec![1, 1], vec![12, 0]),
+        (Step::Alike, vec![1, 1], vec![12, 12]),
+        (Step::Permissions(0), vec![1], vec![12]),
+        (Step::Authorised(0), vec![1], vec![12]),
+        (Step::RoleSetup { juniors: vec![0; 64], permissions: vec![0; 8] }, vec![1], vec![12]),
+        (Step::LabelSetup { clearances: vec![0; 64], labels: vec![0; 64] }, vec![1], vec![12]),
+    ]
+}
+
+#[test]
+fn case_j_other_lengths() {
+    for guard in guards() {
+        for words in [0, 967, 968, 969] {
+            let mut run = Run::default();
+            for step in case("lattice; clear 5 31; run; start 3 5 9").0 {
+                assert_eq!(run.step(guard, &step).map(|reply| reply.answers[0]), Some(1));
+            }
+            run.step(guard, &Step::Keep);
+            run.step(guard, &Step::Length(words));
+            for (step, whole, other) in calls() {
+                let before = run.table.clone();
+                let reply = run.step(guard, &step).expect("a guard takes part");
+                let expected = if words == 968 { whole } else { other };
+                assert_eq!(reply.answers, expected, "{step:?} on {words} words by the {}", guard.name);
+                let kept = run.table == before && reply.words.iter().all(|word| *word == LENT);
+                assert!(kept || words == 968, "{step:?} on {words} words is refused and writes");
+            }
+        }
+    }
+}
