@@ -4,6 +4,8 @@ use Rattle.lines.specs.declared.Word.{Word}
 use Rattle.lines.specs.declared.Word.the-variants.{Roles, Lattice, Above, Permit, Clear, Label, Run, Open, Close, Start, End, Activate, Drop, Assign, Deassign, Grant, Revoke, Reclear}
 use Rattle.lines.specs.declared.Fields.{Fields}
 use Rattle.lines.specs.declared.Fields.the-variants.{Without, One, Two, Three}
+use Rattle.lines.specs.declared.Line.{Line}
+use Rattle.lines.specs.declared.Line.the-variants.{Read, Refused}
 use Rattle.entries.specs.declared.Mode.{Mode}
 use Rattle.entries.specs.declared.Mode.the-variants.{RoleMode, LatticeMode}
 use Rattle.entries.specs.declared.Phase.{Phase}
@@ -11,6 +13,8 @@ use Rattle.entries.specs.declared.Phase.the-variants.{Opening, SettingUp
 use Rattle.entries.specs.declared.Setting.the-variants.{Juniors, Permissions, Clearances, Labels}
 use Rattle.entries.specs.declared.Item.{Item}
 use Rattle.entries.specs.declared.Item.the-variants.{Malformed, Chooses, Sets, Runs, Asks}
+use Rattle.entries.specs.declared.Fault.{Fault}
+use Rattle.entries.specs.declared.Fault.the-variants.{WrongForm, OutOfPlace}
 use Rattle.entries.specs.declared.Due.{Due}
 use Rattle.entries.specs.declared.Due.the-variants.{Refuse, Choose, Put, SetUp, Request}
 use Rattle.entries.specs.declared.Numbers.{Numbers}
@@ -63,6 +67,7 @@ latticeItem Grant n = Malformed
 latticeItem Revoke n = Malformed
 latticeItem Reclear n = taking 2 (Asks 5) n
 
+-- the words of a mode
 unfoldable pub modeItem : Mode → Word → ℕ → Item
 modeItem RoleMode w n = roleItem w n
 modeItem LatticeMode w n = latticeItem w n
@@ -82,24 +87,33 @@ numbersOf (Three a b c) = record { count = 3; a = a; b = b; c = c }
 
 -- ---- the places
 
--- what is due: refusal 10 for a line of wrong form, refusal 11 for one out of place, or what it asks for
-unfoldable pub dueIn : Phase → Item → Due
-dueIn Opening Malformed = Refuse 10
-dueIn Opening (Chooses m) = Choose m
-dueIn Opening (Sets s) = Refuse 10
-dueIn Opening Runs = Refuse 10
-dueIn Opening (Asks code) = Refuse 10
-dueIn (SettingUp m) Malformed = Refuse 10
-dueIn (SettingUp m) (Chooses n) = Refuse 11
-dueIn (SettingUp m) (Sets s) = Put s
-dueIn (SettingUp m) Runs = SetUp m
-dueIn (SettingUp m) (Asks code) = Refuse 11
-dueIn (Running m) Malformed = Refuse 10
-dueIn (Running m) (Chooses n) = Refuse 11
-dueIn (Running m) (Sets s) = Refuse 11
-dueIn (Running m) Runs = Refuse 11
-dueIn (Running m) (Asks code) = Request m code
+-- 01's number of a fault
+abbrev pub faultNumber : Fault → ℕ
+-- "A line of the transcript program is over 128 bytes before its newline, lacks the newline, or is not a word of its mode with
+-- its number of fields, each 0 or digits without a leading 0, below 2^64"
+faultNumber WrongForm = 10
+-- "A line stands out of place"
+faultNumber OutOfPlace = 11
 
--- for a word with n fields
-unfoldable pub dueOf : Phase → Word → ℕ → Due
-dueOf p w n = dueIn p (itemIn p w n)
+-- what is due for an item with its numbers: a refusal of its form or of its place, or what it asks for
+unfoldable pub dueIn : Phase → Item → Numbers → Due
+dueIn Opening Malformed v = Refuse WrongForm
+dueIn Opening (Chooses m) v = Choose m
+dueIn Opening (Sets s) v = Refuse WrongForm
+dueIn Opening Runs v = Refuse WrongForm
+dueIn Opening (Asks code) v = Refuse WrongForm
+dueIn (SettingUp m) Malformed v = Refuse WrongForm
+dueIn (SettingUp m) (Chooses n) v = Refuse OutOfPlace
+dueIn (SettingUp m) (Sets s) v = Put s (v .a) (v .b)
+dueIn (SettingUp m) Runs v = SetUp m
+dueIn (SettingUp m) (Asks code) v = Refuse OutOfPlace
+dueIn (Running m) Malformed v = Refuse WrongForm
+dueIn (Running m) (Chooses n) v = Refuse OutOfPlace
+dueIn (Running m) (Sets s) v = Refuse OutOfPlace
+dueIn (Running m) Runs v = Refuse OutOfPlace
+dueIn (Running m) (Asks code) v = Request m code (v .a) (v .b) (v .c)
+
+-- for a line; one that is no word with numbers behind it has a wrong form wherever it stands
+unfoldable pub dueOf : Phase → Line → Due
+dueOf p Refused = Refuse WrongForm
+dueOf p (Read w fs) = dueIn p (itemIn p w (numbersOf fs .count)) (numbersOf fs)

@@ -1,8 +1,9 @@
 // What a line asks for where it stands: refusals 10 and 11.
 use lines::Fields;
+use lines::Line;
 use lines::Word;
 ghost use mathlib.Core.Path.{_≡_};
-ghost use Rattle.entries.specs.Words.{taking, roleItem, latticeItem, itemIn, numbersOf, dueIn, dueOf};
+ghost use Rattle.entries.specs.Words.{taking, roleItem, latticeItem, itemIn, numbersOf, faultNumber, dueIn, dueOf};
 
 // The mode that a transcript's first accepted line chooses.
 pub enum Mode {
@@ -34,13 +35,19 @@ pub enum Item {
     Asks(u64),
 }
 
-// What is due for a line where it stands.
+// Why a line is refused for its form or its place.
+pub enum Fault {
+    WrongForm,
+    OutOfPlace,
+}
+
+// What is due for a line where it stands, with the numbers that it takes.
 pub enum Due {
-    Refuse(u64),
+    Refuse(Fault),
     Choose(Mode),
-    Put(Setting),
+    Put(Setting, u64, u64),
     SetUp(Mode),
-    Request(Mode, u64),
+    Request(Mode, u64, u64, u64, u64),
 }
 
 // A line's fields: how many there are, and their numbers.
@@ -131,7 +138,7 @@ fn item_in(p: Phase, w: Word, n: u64) -> Item
 }
 
 // The numbers of a line's fields.
-pub fn numbers_of(fs: Fields) -> Numbers
+fn numbers_of(fs: Fields) -> Numbers
     ensures { λ r. ⌜ r ≡ numbersOf fs ⌝ }
 {
     match fs {
@@ -162,38 +169,54 @@ pub fn numbers_of(fs: Fields) -> Numbers
     }
 }
 
-// What is due for an item in a phase.
-fn due_in(p: Phase, i: Item) -> Due
-    ensures { λ r. ⌜ r ≡ dueIn p i ⌝ }
+// The number of a fault.
+pub fn fault_number(f: Fault) -> u64
+    ensures { λ n. ⌜ n ≡ faultNumber f ⌝ }
+{
+    match f {
+        Fault::WrongForm => 10,
+        Fault::OutOfPlace => 11,
+    }
+}
+
+// What is due for an item with its numbers in a phase.
+fn due_in(p: Phase, i: Item, v: Numbers) -> Due
+    ensures { λ r. ⌜ r ≡ dueIn p i v ⌝ }
 {
     match p {
         Phase::Opening => match i {
-            Item::Malformed => Due::Refuse(10),
+            Item::Malformed => Due::Refuse(Fault::WrongForm),
             Item::Chooses(m) => Due::Choose(m),
-            Item::Sets(_) => Due::Refuse(10),
-            Item::Runs => Due::Refuse(10),
-            Item::Asks(_) => Due::Refuse(10),
+            Item::Sets(_) => Due::Refuse(Fault::WrongForm),
+            Item::Runs => Due::Refuse(Fault::WrongForm),
+            Item::Asks(_) => Due::Refuse(Fault::WrongForm),
         },
         Phase::SettingUp(m) => match i {
-            Item::Malformed => Due::Refuse(10),
-            Item::Chooses(_) => Due::Refuse(11),
-            Item::Sets(s) => Due::Put(s),
+            Item::Malformed => Due::Refuse(Fault::WrongForm),
+            Item::Chooses(_) => Due::Refuse(Fault::OutOfPlace),
+            Item::Sets(s) => Due::Put(s, v.a, v.b),
             Item::Runs => Due::SetUp(m),
-            Item::Asks(_) => Due::Refuse(11),
+            Item::Asks(_) => Due::Refuse(Fault::OutOfPlace),
         },
         Phase::Running(m) => match i {
-            Item::Malformed => Due::Refuse(10),
-            Item::Chooses(_) => Due::Refuse(11),
-            Item::Sets(_) => Due::Refuse(11),
-            Item::Runs => Due::Refuse(11),
-            Item::Asks(code) => Due::Request(m, code),
+            Item::Malformed => Due::Refuse(Fault::WrongForm),
+            Item::Chooses(_) => Due::Refuse(Fault::OutOfPlace),
+            Item::Sets(_) => Due::Refuse(Fault::OutOfPlace),
+            Item::Runs => Due::Refuse(Fault::OutOfPlace),
+            Item::Asks(code) => Due::Request(m, code, v.a, v.b, v.c),
         },
     }
 }
 
-// What is due for a word with n fields in a phase.
-pub fn due_of(p: Phase, w: Word, n: u64) -> Due
-    ensures { λ r. ⌜ r ≡ dueOf p w n ⌝ }
+// What is due for a line in a phase.
+pub fn due_of(p: Phase, l: Line) -> Due
+    ensures { λ r. ⌜ r ≡ dueOf p l ⌝ }
 {
-    due_in(p, item_in(p, w, n))
+    match l {
+        Line::Read(w, fs) => {
+            let v = numbers_of(fs);
+            due_in(p, item_in(p, w, v.count), v)
+        }
+        Line::Refused => Due::Refuse(Fault::WrongForm),
+    }
 }

@@ -16,8 +16,7 @@ use Rattle.roles.specs.Guard.{roleStep}
 use Rattle.roles.proofs.Steps.{by-step, decided, step-sound}
 use Rattle.roles.proofs.Claims.{served-same}
 use Rattle.setup.proofs.Claims.{set-up-sound, set-up-refused}
-use Rattle.lines.specs.declared.Line.the-variants.{Read, Refused}
-use Rattle.entries.specs.Words.{numbersOf, dueOf}
+use Rattle.entries.specs.Words.{dueOf}
 use Rattle.entries.specs.declared.Mode.{Mode}
 use Rattle.entries.specs.declared.Mode.the-variants.{RoleMode, LatticeMode}
 use Rattle.entries.specs.declared.Phase.{Phase}
@@ -26,11 +25,10 @@ use Rattle.entries.specs.declared.Setting.{Setting}
 use Rattle.entries.specs.declared.Setting.the-variants.{Juniors, Permissions, Clearances, Labels}
 use Rattle.entries.specs.declared.Due.{Due}
 use Rattle.entries.specs.declared.Due.the-variants.{Refuse, Choose, Put, SetUp, Request}
-use Rattle.entries.specs.declared.Numbers.{Numbers}
 use Rattle.ledger.specs.Store.{Store, withPhase, withTable, withJuniors, withPermissions, withClearances, withLabels, added, stored}
 use Rattle.ledger.specs.Step.{guarded, unguarded, asked, setUpBy, lifted, put, phaseAfter, ran, performed, step}
 use Rattle.ledger.specs.Claims.{SoundFor, SoundIn, StoreSound, StaysSound, ServedSame, RefusedLeaves}
-use Rattle.ledger.proofs.Places.{Only, due-place}
+use Rattle.ledger.proofs.Places.{Fits, due-fits}
 use Rattle.ledger.proofs.Spending.{set-up-spends}
 use Rattle.ledger.proofs.Lattice.{label-same, label-sound, label-refused, label-set-up-sound, label-set-up-refused, label-set-up-spends}
 
@@ -98,38 +96,34 @@ ran-sound d m o f = go (eqb (o .answer) 1) refl
     go true e = f (eqb-true _ _ e)
     go false e = tt
 
-due-sound : (d : Store) (x : Due) (v : Numbers) → StoreSound d → Only (d .phase) x
-    → StoreSound (performed guarded d x v .state)
+due-sound : (d : Store) (x : Due) → StoreSound d → Fits (d .phase) x → StoreSound (performed guarded d x .state)
 unfolding performed lifted SoundIn
-due-sound d (Refuse n) v h f = h
-due-sound d (Choose m) v h f = tt
-due-sound d (Put s) v h f = put-sound d s (v .a) (v .b) h
-due-sound d (SetUp m) v h f = ran-sound d m (set-up-of d m) (made-sound d m)
-due-sound d (Request m code) v h f =
-    rw f (asked-sound m (d .table) (ask code (v .a) (v .b) (v .c)) (rw f at h))
+due-sound d (Refuse f) h p = h
+due-sound d (Choose m) h p = tt
+due-sound d (Put s i v) h p = put-sound d s i v h
+due-sound d (SetUp m) h p = ran-sound d m (set-up-of d m) (made-sound d m)
+due-sound d (Request m code a b c) h p =
+    rw (p .0) (asked-sound m (d .table) (ask code a b c) (rw (p .0) at h))
 
 pub stays-sound : StaysSound
 unfolding step
-stays-sound d Refused h = h
-stays-sound d (Read w fs) h = due-sound d (dueOf (d .phase) w (numbersOf fs .count)) (numbersOf fs) h (due-place (d .phase) w (numbersOf fs .count))
+stays-sound d l h = due-sound d (dueOf (d .phase) l) h (due-fits (d .phase) l)
 
 -- ---- the same without the soundness test
 
-due-same : (d : Store) (x : Due) (v : Numbers) → StoreSound d → Only (d .phase) x
-    → performed unguarded d x v ≡ performed guarded d x v
+due-same : (d : Store) (x : Due) → StoreSound d → Fits (d .phase) x → performed unguarded d x ≡ performed guarded d x
 unfolding performed SoundIn
-due-same d (Refuse n) v h f = refl
-due-same d (Choose m) v h f = refl
-due-same d (Put s) v h f = refl
-due-same d (SetUp m) v h f = refl
-due-same d (Request m code) v h f =
-    let s : SoundIn (Running m) (d .table) = rw f at h in
-    ap (lifted (withTable d)) (asked-same m (d .table) (ask code (v .a) (v .b) (v .c)) s)
+due-same d (Refuse f) h p = refl
+due-same d (Choose m) h p = refl
+due-same d (Put s i v) h p = refl
+due-same d (SetUp m) h p = refl
+due-same d (Request m code a b c) h p =
+    let s : SoundIn (Running m) (d .table) = rw (p .0) at h in
+    ap (lifted (withTable d)) (asked-same m (d .table) (ask code a b c) s)
 
 pub line-same : ServedSame
 unfolding step
-line-same d Refused h = refl
-line-same d (Read w fs) h = due-same d (dueOf (d .phase) w (numbersOf fs .count)) (numbersOf fs) h (due-place (d .phase) w (numbersOf fs .count))
+line-same d l h = due-same d (dueOf (d .phase) l) h (due-fits (d .phase) l)
 
 -- ---- a refused line
 
@@ -171,18 +165,17 @@ request-left : (d : Store) (m : Mode) (q : Ask) → SoundFor m (d .table) → 1 
 unfolding lifted
 request-left d m q s h = let r = asked-refused m (d .table) q s h in (ap (withTable d) (r .0), r .1)
 
-due-refused : (d : Store) (x : Due) (v : Numbers) → StoreSound d → Only (d .phase) x → 1 < performed guarded d x v .answer
-    → (performed guarded d x v .state ≡ d) × (performed guarded d x v .spent ≡ 0)
+due-refused : (d : Store) (x : Due) → StoreSound d → Fits (d .phase) x → 1 < performed guarded d x .answer
+    → (performed guarded d x .state ≡ d) × (performed guarded d x .spent ≡ 0)
 unfolding performed SoundIn
-due-refused d (Refuse n) v s f h = (refl, refl)
-due-refused d (Choose m) v s f h = absurd (omega arith)
-due-refused d (Put l) v s f h = put-refused d l (v .a) (v .b) h
-due-refused d (SetUp m) v s f h = set-up-left d m f h
-due-refused d (Request m code) v s f h = request-left d m (ask code (v .a) (v .b) (v .c)) (rw f at s) h
+due-refused d (Refuse f) s p h = (refl, refl)
+due-refused d (Choose m) s p h = absurd (omega arith)
+due-refused d (Put l i v) s p h = put-refused d l i v h
+due-refused d (SetUp m) s p h = set-up-left d m p h
+due-refused d (Request m code a b c) s p h = request-left d m (ask code a b c) (rw (p .0) at s) h
 
 pub refused-leaves : RefusedLeaves
 unfolding step
-refused-leaves d Refused s h = record { unchanged = refl; no-spending = refl }
-refused-leaves d (Read w fs) s h =
-    let r = due-refused d (dueOf (d .phase) w (numbersOf fs .count)) (numbersOf fs) s (due-place (d .phase) w (numbersOf fs .count)) h in
+refused-leaves d l s h =
+    let r = due-refused d (dueOf (d .phase) l) s (due-fits (d .phase) l) h in
     record { unchanged = r .0; no-spending = r .1 }

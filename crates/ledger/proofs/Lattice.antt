@@ -1,6 +1,6 @@
 -- What transcripts know of lattice mode: the laws of the label set-up and of label requests. Assumes nothing.
 use Prim.Native.Nat.{ℕ, _≤_, _<_}
-use mathlib.Core.Path.{_≡_, sym, ap, _∙_}
+use mathlib.Core.Path.{_≡_, refl, sym, ap, _∙_}
 use mathlib.Core.Bool.{Bool, true, false}
 use mathlib.Core.List.{List}
 use native.Mathlib.Omega.{arith}
@@ -11,7 +11,7 @@ use Rattle.bits.specs.Words.{_and_}
 use Rattle.bits.proofs.Truth.{by-truth, and-left, and-right}
 use Rattle.table.specs.Table.{isTable}
 use Rattle.sound.specs.Answers.{isSound}
-use Rattle.roles.specs.Request.{Ask, Outcome, refuse, decide}
+use Rattle.roles.specs.Request.{Ask, Outcome, refuse, decide, accept}
 use Rattle.machine.specs.Machine.{Machine, isCode, inRange, decode, allowed, step, begin}
 use Rattle.machine.proofs.Steps.{step-code, step-argument, step-act}
 use Rattle.image.specs.Image.{image}
@@ -44,21 +44,30 @@ module _ (t clearances labels : List ℕ) where
   pub label-set-up-refused : (labelSetUp t clearances labels .answer ≡ 1 → ⊥) → labelSetUp t clearances labels .state ≡ t
   label-set-up-refused h = set-up-refused t clearances labels h
 
-  pub label-set-up-spends : 0 ≡ labelSetUp t clearances labels .spent
-  label-set-up-spends =
+-- of two lists that are tables or are not: both refused alike, or both accepted with the same table
+module _ (t u clearances labels : List ℕ) (same : isTable t ≡ isTable u) where
+  pub by-label-set-up : {A : Type 0} → ((n : ℕ) → (n ≡ 1 → ⊥) → labelSetUp t clearances labels ≡ refuse n t → labelSetUp u clearances labels ≡ refuse n u → A)
+      → ((new : List ℕ) → labelSetUp t clearances labels ≡ accept new → labelSetUp u clearances labels ≡ accept new → A) → A
+  by-label-set-up f g =
       by-truth (isTable t)
       (λ i. by-truth (eqb (length clearances) 64 and eqb (length labels) 64)
       (λ l.
       let c = eqb-true (length clearances) 64 (and-left _ _ l) in
       let k = eqb-true (length labels) 64 (and-right _ _ l) in
       by-truth (areLabels clearances and areLabels labels)
-      (λ v. spends (set-up-accepted t clearances labels i c k (and-left _ _ v) (and-right (areLabels clearances) _ v)))
-      (λ v. spends (set-up-values t clearances labels i c k v)))
-      (λ l. spends (set-up-lists t clearances labels i l)))
-      (λ i. spends (set-up-short t clearances labels i))
-    where
-      spends : {o o′ : Outcome (List ℕ)} → o ≡ o′ → o′ .spent ≡ o .spent
-      spends e = sym (ap (λ (p : Outcome (List ℕ)). p .spent) e)
+      (λ v.
+      let x = and-left _ _ v in
+      let y = and-right (areLabels clearances) _ v in
+      g _ (set-up-accepted t clearances labels i c k x y) (set-up-accepted u clearances labels (sym same ∙ i) c k x y))
+      (λ v. f 19 (λ z. omega arith) (set-up-values t clearances labels i c k v) (set-up-values u clearances labels (sym same ∙ i) c k v)))
+      (λ l. f 18 (λ z. omega arith) (set-up-lists t clearances labels i l) (set-up-lists u clearances labels (sym same ∙ i) l)))
+      (λ i. f 12 (λ z. omega arith) (set-up-short t clearances labels i) (set-up-short u clearances labels (sym same ∙ i)))
+
+pub label-set-up-spends : (t clearances labels : List ℕ) → 0 ≡ labelSetUp t clearances labels .spent
+label-set-up-spends t clearances labels = by-label-set-up t t clearances labels refl (λ n k e f. spends e) (λ new e f. spends e)
+  where
+    spends : {o o′ : Outcome (List ℕ)} → o ≡ o′ → o′ .spent ≡ o .spent
+    spends e = sym (ap (λ (p : Outcome (List ℕ)). p .spent) e)
 
 -- ---- requests on the image of a machine state
 

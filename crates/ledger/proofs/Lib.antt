@@ -5,5 +5,5 @@ pub mod Spending
 pub mod Places
 pub mod Lattice
 pub mod Claims
-pub mod Coding
 pub mod Showing
+pub mod Contents

@@ -25,21 +25,21 @@ use Rattle.setup.specs.Closure.{closure, acyclic}
 use Rattle.setup.proofs.SetUp.{set-up-cycle, set-up-accepted}
 use Rattle.image.specs.SetUp.{areLabels}
 use Rattle.image.proofs.Accepting as image
-use Rattle.lines.specs.declared.Line.the-variants.{Read, Refused}
-use Rattle.entries.specs.Words.{numbersOf, dueOf}
+use Rattle.entries.specs.Words.{faultNumber, dueOf}
 use Rattle.entries.specs.declared.Mode.{Mode}
 use Rattle.entries.specs.declared.Mode.the-variants.{RoleMode, LatticeMode}
 use Rattle.entries.specs.declared.Phase.{Phase}
 use Rattle.entries.specs.declared.Phase.the-variants.{SettingUp}
 use Rattle.entries.specs.declared.Setting.{Setting}
 use Rattle.entries.specs.declared.Setting.the-variants.{Juniors, Permissions, Clearances, Labels}
+use Rattle.entries.specs.declared.Fault.{Fault}
+use Rattle.entries.specs.declared.Fault.the-variants.{WrongForm, OutOfPlace}
 use Rattle.entries.specs.declared.Due.{Due}
 use Rattle.entries.specs.declared.Due.the-variants.{Refuse, Choose, Put, SetUp, Request}
-use Rattle.entries.specs.declared.Numbers.{Numbers}
 use Rattle.ledger.specs.Store.{Store, withPhase, withTable, added, stored}
 use Rattle.ledger.specs.Step.{guarded, asked, setUpBy, lifted, put, ran, performed, step}
-use Rattle.ledger.specs.Claims.{SoundFor, SoundIn, StoreSound, shows, Proper, NeverShown}
-use Rattle.ledger.proofs.Coding.{most, Fits, due-fits}
+use Rattle.ledger.specs.Claims.{SoundFor, SoundIn, StoreSound, shows, Proper, LineShows}
+use Rattle.ledger.proofs.Places.{most, Fits, due-fits}
 use Rattle.ledger.proofs.Lattice.{by-label}
 use Rattle.ledger.proofs.Claims.{set-up-of, asked-sound, made-sound, made-same}
 
@@ -56,6 +56,11 @@ shows-decided false y n new old = shows-small 0 (omega arith)
 
 shows-as : {o o′ : Outcome (List ℕ)} → o ≡ o′ → shows (o′ .answer) ≡ true → shows (o .answer) ≡ true
 shows-as e h = ap (λ (p : Outcome (List ℕ)). shows (p .answer)) e ∙ h
+
+shows-fault : (f : Fault) → shows (faultNumber f) ≡ true
+unfolding shows _or_
+shows-fault WrongForm = refl
+shows-fault OutOfPlace = refl
 
 -- ---- requests and set-ups
 
@@ -206,19 +211,17 @@ put-shown d Labels a b p =
       },
     )
 
-due-shown : (d : Store) (x : Due) (v : Numbers) → StoreSound d → Proper d → Fits (d .phase) x → Shown (performed guarded d x v)
+due-shown : (d : Store) (x : Due) → StoreSound d → Proper d → Fits (d .phase) x → Shown (performed guarded d x)
 unfolding performed lifted ran SoundIn
-due-shown d (Refuse n) v s p f = (f, p)
-due-shown d (Choose m) v s p f = (shows-small 1 (omega arith), with-table d (SettingUp m) (d .table) p (p .table))
-due-shown d (Put l) v s p f = put-shown d l (v .a) (v .b) p
-due-shown d (SetUp m) v s p f = (made-shows d m p, with-table d _ _ p (made-table d m p))
-due-shown d (Request m code) v s p f =
-    let r : SoundFor m (d .table) = rw (f .0) at s in
-    let q = ask code (v .a) (v .b) (v .c) in
-    (asked-shows m (d .table) q r (f .1) (f .2), with-table d (d .phase) _ p (sound-is-table m _ (asked-sound m (d .table) q r)))
+due-shown d (Refuse f) s p t = (shows-fault f, p)
+due-shown d (Choose m) s p t = (shows-small 1 (omega arith), with-table d (SettingUp m) (d .table) p (p .table))
+due-shown d (Put l i v) s p t = put-shown d l i v p
+due-shown d (SetUp m) s p t = (made-shows d m p, with-table d _ _ p (made-table d m p))
+due-shown d (Request m code a b c) s p t =
+    let r : SoundFor m (d .table) = rw (t .0) at s in
+    let q = ask code a b c in
+    (asked-shows m (d .table) q r (t .1) (t .2), with-table d (d .phase) _ p (sound-is-table m _ (asked-sound m (d .table) q r)))
 
-pub never-shown : NeverShown
-unfolding step shows _or_
-never-shown d Refused s p = (refl, p)
-never-shown d (Read w fs) s p =
-    due-shown d (dueOf (d .phase) w (numbersOf fs .count)) (numbersOf fs) s p (due-fits (d .phase) w (numbersOf fs .count))
+pub line-shows : LineShows
+unfolding step
+line-shows d l s p = due-shown d (dueOf (d .phase) l) s p (due-fits (d .phase) l)

@@ -11,7 +11,7 @@ use Rattle.bits.specs.Words.{_and_}
 use Rattle.bits.proofs.Truth.{by-truth, and-left, and-right}
 use Rattle.table.specs.Table.{isTable}
 use Rattle.table.specs.Reading.{state}
-use Rattle.roles.specs.Request.{Ask, Outcome, refuse, decide}
+use Rattle.roles.specs.Request.{Ask, Outcome, refuse, decide, accept}
 use Rattle.roles.specs.Roles.{isCode, inRange, decode, known}
 use Rattle.roles.specs.Guard.{allowedSound, soundStep}
 use Rattle.roles.proofs.Serving.{served-known, served-unknown}
@@ -63,18 +63,24 @@ answered-role t q h =
 
 -- ---- the role set-up
 
+-- of two lists that are tables or are not: both refused alike, or both accepted with the same table
+module _ (t u juniors permissions : List ℕ) (same : isTable t ≡ isTable u) where
+  pub by-set-up : {A : Type 0} → ((n : ℕ) → (n ≡ 1 → ⊥) → roleSetUp t juniors permissions ≡ refuse n t → roleSetUp u juniors permissions ≡ refuse n u → A)
+      → ((new : List ℕ) → roleSetUp t juniors permissions ≡ accept new → roleSetUp u juniors permissions ≡ accept new → A) → A
+  by-set-up f g =
+      by-truth (isTable t)
+      (λ i. by-truth (eqb (length juniors) 64 and eqb (length permissions) 8)
+      (λ l.
+      let j = eqb-true (length juniors) 64 (and-left _ _ l) in
+      let p = eqb-true (length permissions) 8 (and-right _ _ l) in
+      by-truth (acyclic (closure juniors))
+      (λ a. g _ (set-up-accepted t juniors permissions i j p a) (set-up-accepted u juniors permissions (sym same ∙ i) j p a))
+      (λ a. f 20 (λ z. omega arith) (set-up-cycle t juniors permissions i j p a) (set-up-cycle u juniors permissions (sym same ∙ i) j p a)))
+      (λ l. f 18 (λ z. omega arith) (set-up-lists t juniors permissions i l) (set-up-lists u juniors permissions (sym same ∙ i) l)))
+      (λ i. f 12 (λ z. omega arith) (set-up-short t juniors permissions i) (set-up-short u juniors permissions (sym same ∙ i)))
+
 pub set-up-spends : (t juniors permissions : List ℕ) → 0 ≡ roleSetUp t juniors permissions .spent
-set-up-spends t juniors permissions =
-    by-truth (isTable t)
-    (λ i. by-truth (eqb (length juniors) 64 and eqb (length permissions) 8)
-    (λ l.
-    let j = eqb-true (length juniors) 64 (and-left _ _ l) in
-    let p = eqb-true (length permissions) 8 (and-right _ _ l) in
-    by-truth (acyclic (closure juniors))
-    (λ a. spends (set-up-accepted t juniors permissions i j p a))
-    (λ a. spends (set-up-cycle t juniors permissions i j p a)))
-    (λ l. spends (set-up-lists t juniors permissions i l)))
-    (λ i. spends (set-up-short t juniors permissions i))
+set-up-spends t juniors permissions = by-set-up t t juniors permissions refl (λ n k e f. spends e) (λ new e f. spends e)
   where
     spends : {o o′ : Outcome (List ℕ)} → o ≡ o′ → o′ .spent ≡ o .spent
     spends e = sym (ap (λ (p : Outcome (List ℕ)). p .spent) e)

@@ -6,7 +6,6 @@ use Rattle.setup.specs.SetUp.{roleSetUp}
 use Rattle.image.specs.SetUp.{labelSetUp}
 use Rattle.labels.specs.Guard.{labelStep, imageStep}
 use Rattle.lines.specs.declared.Line.{Line}
-use Rattle.lines.specs.declared.Line.the-variants.{Read, Refused}
 use Rattle.entries.specs.declared.Mode.{Mode}
 use Rattle.entries.specs.declared.Mode.the-variants.{RoleMode, LatticeMode}
 use Rattle.entries.specs.declared.Phase.{Phase}
@@ -15,8 +14,7 @@ use Rattle.entries.specs.declared.Setting.{Setting}
 use Rattle.entries.specs.declared.Setting.the-variants.{Juniors, Permissions, Clearances, Labels}
 use Rattle.entries.specs.declared.Due.{Due}
 use Rattle.entries.specs.declared.Due.the-variants.{Refuse, Choose, Put, SetUp, Request}
-use Rattle.entries.specs.declared.Numbers.{Numbers}
-use Rattle.entries.specs.Words.{numbersOf, dueOf}
+use Rattle.entries.specs.Words.{faultNumber, dueOf}
 use Rattle.ledger.specs.Store.{Store, withPhase, withTable, withJuniors, withPermissions, withClearances, withLabels, added, stored}
 
 -- an answer, a figure spent and what is kept
@@ -61,18 +59,18 @@ put d Labels o l = lifted (withLabels d) (stored (d .labels) o l)
 unfoldable pub phaseAfter : Mode → ℕ → Phase
 phaseAfter m answer = if eqb answer 1 then Running m else SettingUp m
 
+-- `run`, with what the set-up came to
 unfoldable pub ran : Store → Mode → Outcome (List ℕ) → Outcome Store
 ran d m o = lifted (λ t. withPhase (withTable d t) (phaseAfter m (o .answer))) o
 
 -- what is due is done
-unfoldable pub performed : Guards → Store → Due → Numbers → Outcome Store
-performed G d (Refuse n) v = refuse n d
-performed G d (Choose m) v = accept (withPhase d (SettingUp m))
-performed G d (Put s) v = put d s (v .a) (v .b)
-performed G d (SetUp m) v = ran d m (setUpBy m (d .table) (d .juniors) (d .permissions) (d .clearances) (d .labels))
-performed G d (Request m code) v = lifted (withTable d) (asked G m (d .table) (ask code (v .a) (v .b) (v .c)))
+unfoldable pub performed : Guards → Store → Due → Outcome Store
+performed G d (Refuse f) = refuse (faultNumber f) d
+performed G d (Choose m) = accept (withPhase d (SettingUp m))
+performed G d (Put s i v) = put d s i v
+performed G d (SetUp m) = ran d m (setUpBy m (d .table) (d .juniors) (d .permissions) (d .clearances) (d .labels))
+performed G d (Request m code a b c) = lifted (withTable d) (asked G m (d .table) (ask code a b c))
 
--- a line
+-- a line: what is due for it where it stands
 unfoldable pub step : Guards → Store → Line → Outcome Store
-step G d Refused = refuse 10 d
-step G d (Read w fs) = performed G d (dueOf (d .phase) w (numbersOf fs .count)) (numbersOf fs)
+step G d l = performed G d (dueOf (d .phase) l)

@@ -1,14 +1,13 @@
 // What a transcript keeps from line to line, and what each line comes to.
 use entries::Due;
 use entries::Mode;
-use entries::Numbers;
 use entries::Phase;
 use entries::Setting;
 use lines::Line;
 ghost use mathlib.Core.Path.{_≡_};
 ghost use Rattle.roles.specs.Request.{ask};
 ghost use Rattle.ledger.specs.Store.{store, added, stored, Comes};
-ghost use Rattle.ledger.specs.Step.{outcome, unguarded, asked, setUpBy, phaseAfter, performed, step};
+ghost use Rattle.ledger.specs.Step.{outcome, unguarded, asked, setUpBy, phaseAfter, step};
 
 // What a request comes to.
 pub struct Verdict {
@@ -115,74 +114,6 @@ fn phase_after(m: Mode, answer: u64) -> Phase
     Phase::Running(m)
 }
 
-// Does what is due.
-fn perform(
-    phase: Phase,
-    due: Due,
-    v: Numbers,
-    table: &mut [u64],
-    juniors: &mut [u64],
-    permissions: &mut [u64],
-    clearances: &mut [u8],
-    labels: &mut [u8],
-) -> Reply
-    ensures { λ r. ⌜ outcome (r .answer) (r .spent) (store (r .phase) (now (table .exit)) (now (juniors .exit)) (now (permissions .exit)) (now (clearances .exit)) (now (labels .exit))) ≡ performed unguarded (store phase (now (table .entry)) (now (juniors .entry)) (now (permissions .entry)) (now (clearances .entry)) (now (labels .entry))) due v ⌝ }
-{
-    let a = v.a;
-    let b = v.b;
-    let c = v.c;
-    match due {
-        Due::Refuse(n) => Reply {
-            phase: phase,
-            answer: n,
-            spent: 0,
-        },
-        Due::Choose(m) => Reply {
-            phase: Phase::SettingUp(m),
-            answer: 1,
-            spent: 0,
-        },
-        Due::Put(s) => match s {
-            Setting::Juniors => Reply {
-                phase: phase,
-                answer: add_member(juniors, 63, a, b),
-                spent: 0,
-            },
-            Setting::Permissions => Reply {
-                phase: phase,
-                answer: add_member(permissions, 7, a, b),
-                spent: 0,
-            },
-            Setting::Clearances => Reply {
-                phase: phase,
-                answer: store_label(clearances, a, b),
-                spent: 0,
-            },
-            Setting::Labels => Reply {
-                phase: phase,
-                answer: store_label(labels, a, b),
-                spent: 0,
-            },
-        },
-        Due::SetUp(m) => {
-            let n = set_up(m, table, juniors, permissions, clearances, labels);
-            Reply {
-                phase: phase_after(m, n),
-                answer: n,
-                spent: 0,
-            }
-        }
-        Due::Request(m, code) => {
-            let r = serve_request(m, table, code, a, b, c);
-            Reply {
-                phase: phase,
-                answer: r.answer,
-                spent: r.spent,
-            }
-        }
-    }
-}
-
 // What a line comes to.
 pub fn act(
     phase: Phase,
@@ -195,25 +126,54 @@ pub fn act(
 ) -> Reply
     ensures { λ r. ⌜ outcome (r .answer) (r .spent) (store (r .phase) (now (table .exit)) (now (juniors .exit)) (now (permissions .exit)) (now (clearances .exit)) (now (labels .exit))) ≡ step unguarded (store phase (now (table .entry)) (now (juniors .entry)) (now (permissions .entry)) (now (clearances .entry)) (now (labels .entry))) line ⌝ }
 {
-    match line {
-        Line::Read(w, fs) => {
-            let v = entries::numbers_of(fs);
-            let due = entries::due_of(phase, w, v.count);
-            perform(
-                phase,
-                due,
-                v,
-                table,
-                juniors,
-                permissions,
-                clearances,
-                labels,
-            )
-        }
-        Line::Refused => Reply {
+    match entries::due_of(phase, line) {
+        Due::Refuse(f) => Reply {
             phase: phase,
-            answer: 10,
+            answer: entries::fault_number(f),
             spent: 0,
         },
+        Due::Choose(m) => Reply {
+            phase: Phase::SettingUp(m),
+            answer: 1,
+            spent: 0,
+        },
+        Due::Put(s, i, v) => match s {
+            Setting::Juniors => Reply {
+                phase: phase,
+                answer: add_member(juniors, 63, i, v),
+                spent: 0,
+            },
+            Setting::Permissions => Reply {
+                phase: phase,
+                answer: add_member(permissions, 7, i, v),
+                spent: 0,
+            },
+            Setting::Clearances => Reply {
+                phase: phase,
+                answer: store_label(clearances, i, v),
+                spent: 0,
+            },
+            Setting::Labels => Reply {
+                phase: phase,
+                answer: store_label(labels, i, v),
+                spent: 0,
+            },
+        },
+        Due::SetUp(m) => {
+            let n = set_up(m, table, juniors, permissions, clearances, labels);
+            Reply {
+                phase: phase_after(m, n),
+                answer: n,
+                spent: 0,
+            }
+        }
+        Due::Request(m, code, a, b, c) => {
+            let r = serve_request(m, table, code, a, b, c);
+            Reply {
+                phase: phase,
+                answer: r.answer,
+                spent: r.spent,
+            }
+        }
     }
 }

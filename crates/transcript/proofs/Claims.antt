@@ -2,28 +2,81 @@
 use Prim.Native.Nat.{ℕ}
 use mathlib.Core.Path.{_≡_, refl, sym, ap, ap₂, _∙_}
 use mathlib.Core.Bool.{true}
-use mathlib.Core.List.{List, _++_, append-assoc}
+use mathlib.Core.Logic.{⊎-elim}
+use mathlib.Core.List.{List, [], _∷_, _++_, append-assoc, List·Memᴰ, List·Memᴰ·cases-cons, List·Memᴰ·not-nil}
+use lib.Dec.{ltb}
 use lib.ListN.{drop}
+use Rattle.bits.proofs.Below.{all-intro}
+use Rattle.table.specs.Table.{tableLength, isTable, tabulate}
+use Rattle.table.proofs.Table.{is-table}
+use Rattle.table.proofs.Tabulate.{length-tabulate, getD-tabulate}
+use Rattle.image.specs.SetUp.{areLabels}
+use Rattle.lines.specs.Reader.{steps}
+use Rattle.lines.specs.declared.Line.{Line}
 use Rattle.output.specs.Text.{header}
-use Rattle.ledger.specs.Step.{guarded, unguarded}
-use Rattle.ledger.specs.Claims.{SoundIn, StoreSound}
+use Rattle.ledger.specs.Store.{Store, withTable}
+use Rattle.ledger.specs.Step.{guarded, unguarded, step}
+use Rattle.ledger.specs.Claims.{SoundIn, StoreSound, shows, Proper}
+use Rattle.ledger.proofs.Claims.{stays-sound}
+use Rattle.ledger.proofs.Showing.{line-shows}
+use Rattle.ledger.proofs.Contents.{SameIn, line-matches}
 use Rattle.transcript.specs.Stream.{Standing, after, emitted, closing, serving}
-use Rattle.transcript.specs.Document.{blank, output}
-use Rattle.transcript.specs.Claims.{begun, OutputIs, Calls, none, call, BlocksDoNotMatter, SoundForGood}
+use Rattle.transcript.specs.Document.{Result, linesOf, results, rows, blank, replies, output}
+use Rattle.transcript.specs.Claims.{begun, OutputIs, Calls, none, call, BlocksDoNotMatter, NeverShown, SoundForGood}
 use Rattle.transcript.proofs.Pieces.{after-append, emitted-append, serving-splits}
 use Rattle.transcript.proofs.Whole.{written-is}
 use Rattle.transcript.proofs.Guarding.{agrees}
+
+-- ---- the start
+
+-- a table of zeros
+abbrev zeros : List ℕ
+zeros = tabulate tableLength (λ i. 0)
+
+zeros-table : isTable zeros ≡ true
+zeros-table = is-table zeros (length-tabulate tableLength (λ i. 0))
 
 blank-sound : (table : List ℕ) → StoreSound (blank table)
 unfolding blank SoundIn
 blank-sound table = tt
 
+-- zeros are labels
+zeros-labels : areLabels (tabulate 64 (λ i. 0)) ≡ true
+unfolding areLabels
+zeros-labels = all-intro _ 64 (λ i h. ap (λ (v : ℕ). ltb v 32) (getD-tabulate 64 (λ i. 0) 0 i h))
+
+blank-proper : Proper (blank zeros)
+unfolding blank
+blank-proper = record {
+  table = zeros-table;
+  juniors = length-tabulate 64 _;
+  permissions = length-tabulate 8 _;
+  clearances = length-tabulate 64 _;
+  labels = length-tabulate 64 _;
+  clearances-known = zeros-labels;
+  labels-known = zeros-labels;
+}
+
+-- ---- the output
+
+-- lines show the same of two stores that differ in the old contents of the table alone
+results-same : (d : Store) (u : List ℕ) (ls : List Line) → SameIn (d .phase) (d .table) u → results d ls ≡ results (withTable d u) ls
+unfolding results
+results-same d u [] h = refl
+results-same d u (l ∷ ls) h =
+    let m = line-matches d u l h in
+    let next = step guarded (withTable d u) l .state in
+    ap₂ _∷_ (ap₂ (λ (a n : ℕ). record { answer = a; spent = n }) (m .answers) (m .spends))
+    (results-same (step guarded d l .state) (next .table) ls (m .tables) ∙ ap (λ (e : Store). results e ls) (sym (m .stores)))
+
 pub output-is : OutputIs
-unfolding output
-output-is table l =
+unfolding output replies blank steps
+output-is table l h =
     let a = agrees (begun table) l (blank-sound table) in
     ap₂ (λ (s : Standing) (w : List ℕ). header ++ w ++ closing (s .number) (s .reader)) (a .0) (a .1)
-    ∙ append-assoc header _ _ ∙ ap (λ (w : List ℕ). header ++ w) (written-is guarded (blank table) l) ∙ sym (append-assoc header _ _)
+    ∙ append-assoc header _ _
+    ∙ ap (λ (w : List ℕ). header ++ w)
+    (written-is (blank table) 1 [] l ∙ ap (rows 1) (results-same (blank table) zeros (linesOf [] l) (h ∙ sym zeros-table)))
 
 -- ---- blocks
 
@@ -43,9 +96,24 @@ called (call {p} {q} {written} block more room c) =
     )
 
 pub blocks-do-not-matter : BlocksDoNotMatter
-blocks-do-not-matter table l written q c =
+blocks-do-not-matter table l written q h c =
     let a = called c in
-    ap₂ (λ (s : Standing) (w : List ℕ). header ++ w ++ closing (s .number) (s .reader)) (sym (a .0)) (sym (a .1)) ∙ output-is table l
+    ap₂ (λ (s : Standing) (w : List ℕ). header ++ w ++ closing (s .number) (s .reader)) (sym (a .0)) (sym (a .1)) ∙ output-is table l h
+
+-- ---- what is shown, and what is sound
+
+results-show : (d : Store) (ls : List Line) (r : Result) → StoreSound d → Proper d → List·Memᴰ r (results d ls) → shows (r .answer) ≡ true
+unfolding results
+results-show d [] r s p m = absurd (List·Memᴰ·not-nil m)
+results-show d (l ∷ ls) r s p m =
+    let k = line-shows d l s p in
+    ⊎-elim (λ e. ap (λ (x : Result). shows (x .answer)) e ∙ k .0)
+    (λ n. results-show (step guarded d l .state) ls r (stays-sound d l s) (k .1) n)
+    (List·Memᴰ·cases-cons m)
+
+pub never-shown : NeverShown
+unfolding replies
+never-shown l r m = results-show (blank zeros) (linesOf [] l) r (blank-sound zeros) blank-proper m
 
 pub sound-for-good : SoundForGood
 sound-for-good table l =

@@ -19,6 +19,8 @@ use Rattle.lines.specs.declared.Reader.the-variants.{Letters}
 use Rattle.lines.specs.declared.Fed.the-variants.{Whole, Used}
 use Rattle.output.specs.Text.{row, rowRoom, fitting, Wrote}
 use Rattle.output.proofs.Writing.{length-row, wrote-row, sets-append}
+use Rattle.entries.specs.declared.Fault.the-variants.{WrongForm}
+use Rattle.entries.specs.Words.{faultNumber}
 use Rattle.ledger.specs.Store.{Store}
 use Rattle.ledger.specs.Step.{Guards, outcome, step}
 use Rattle.transcript.specs.Stream.{Standing, reading, replied, reply, closing, Stop, halt, ahead, full, serving, IsServed}
@@ -223,6 +225,6 @@ module _ (number : ℕ) (s : Reader) where
   unfolding closing
   closing-fresh e = if-true _ _ e
 
-  pub closing-begun : fresh s ≡ false → closing number s ≡ row number 10 0
+  pub closing-begun : {n : ℕ} → fresh s ≡ false → n ≡ faultNumber WrongForm → closing number s ≡ row number n 0
   unfolding closing
-  closing-begun e = if-false _ _ e
+  closing-begun e f = if-false _ _ e ∙ ap (λ (m : ℕ). row number m 0) (sym f)

@@ -1,41 +1,44 @@
 -- The whole output of the transcript program as a function of its whole input: the section of 01 on the program.
-use Rattle.bits.specs.Words.{ℕ, _+_, List, [], _∷_, _++_, eqb, length, if_then_else_}
-use Rattle.table.specs.Table.{tabulate}
-use Rattle.lines.specs.Bytes.{empty}
+use Rattle.bits.specs.Words.{ℕ, _+_, List, [], _∷_, _++_, eqb, if_then_else_}
+use Rattle.table.specs.Table.{tableLength, tabulate}
+use Rattle.lines.specs.Bytes.{newline, empty}
 use Rattle.lines.specs.Line.{line}
+use Rattle.lines.specs.declared.Line.{Line}
+use Rattle.lines.specs.declared.Line.the-variants.{Refused}
 use Rattle.output.specs.Text.{row, header}
 use Rattle.entries.specs.declared.Phase.the-variants.{Opening}
 use Rattle.ledger.specs.Store.{Store, store}
-use Rattle.ledger.specs.Step.{Guards, guarded, step}
+use Rattle.ledger.specs.Step.{guarded, step}
 
--- a byte put before the first line, if there is one
-unfoldable pub onto : ℕ → List (List ℕ) → List (List ℕ)
-onto b [] = []
-onto b (r ∷ rs) = (b ∷ r) ∷ rs
+-- the lines of an input behind the first bytes q of a line: a newline ends a line, and what is left over without one is one
+-- more line, refused
+unfoldable pub linesOf : List ℕ → List ℕ → List Line
+linesOf q [] = if empty q then [] else Refused ∷ []
+linesOf q (b ∷ l) = if eqb b newline then line q ∷ linesOf [] l else linesOf (q ++ (b ∷ [])) l
 
--- the lines that a newline ends, each without it
-unfoldable pub linesOf : List ℕ → List (List ℕ)
-linesOf [] = []
-linesOf (b ∷ l) = if eqb b 10 then [] ∷ linesOf l else onto b (linesOf l)
+-- what is shown of a line
+pub record Result : Type 0 where
+  pub answer : ℕ
+  pub spent : ℕ
 
--- the bytes behind the last newline, behind bytes q that have none
-unfoldable pub behindLast : List ℕ → List ℕ → List ℕ
-behindLast q [] = q
-behindLast q (b ∷ l) = if eqb b 10 then behindLast [] l else behindLast (q ++ (b ∷ [])) l
+-- what is shown of lines, one after the other, by the guards of 01
+unfoldable pub results : Store → List Line → List Result
+results d [] = []
+results d (l ∷ ls) = record { answer = step guarded d l .answer; spent = step guarded d l .spent } ∷ results (step guarded d l .state) ls
 
--- a row for each line, numbered from n
-unfoldable pub replies : Guards → Store → ℕ → List (List ℕ) → List ℕ
-replies G d n [] = []
-replies G d n (r ∷ rs) = row n (step G d (line r) .answer) (step G d (line r) .spent) ++ replies G (step G d (line r) .state) (n + 1) rs
+-- a row for each, numbered from n
+unfoldable pub rows : ℕ → List Result → List ℕ
+rows n [] = []
+rows n (r ∷ rs) = row n (r .answer) (r .spent) ++ rows (n + 1) rs
 
--- what is left over without a newline is one more line, refused
-unfoldable pub leftOver : List ℕ → ℕ → List ℕ
-leftOver q n = if empty q then [] else row n 10 0
-
--- what is kept at the start: no mode, and lists of nothing; the old contents of the table do not matter
+-- what is kept at the start: no mode, the lent table, and lists of nothing
 unfoldable pub blank : List ℕ → Store
 blank table = store Opening table (tabulate 64 (λ r. 0)) (tabulate 8 (λ x. 0)) (tabulate 64 (λ u. 0)) (tabulate 64 (λ o. 0))
 
--- the whole output, for a table of 968 words
-unfoldable pub output : List ℕ → List ℕ → List ℕ
-output table l = header ++ replies guarded (blank table) 1 (linesOf l) ++ leftOver (behindLast [] l) (1 + length (linesOf l))
+-- what is shown of each line of an input: from a table of zeros, and OutputIs says that another makes no difference
+unfoldable pub replies : List ℕ → List Result
+replies l = results (blank (tabulate tableLength (λ i. 0))) (linesOf [] l)
+
+-- the whole output
+unfoldable pub output : List ℕ → List ℕ
+output l = header ++ rows 1 (replies l)

@@ -2,11 +2,14 @@
 -- what Document says of the whole input.
 use Rattle.bits.specs.Words.{ℕ, _+_, _-_, _^_, _≤_, _≡_, Bool, true, false, List, [], _∷_, _++_, eqb, ltb, length, _and_, _or_, if_then_else_}
 use lib.Seq.{sets}
+use Rattle.lines.specs.Bytes.{newline}
 use Rattle.lines.specs.Reader.{stepOf, finished, fresh}
 use Rattle.lines.specs.declared.Reader.{Reader}
 use Rattle.lines.specs.declared.Reader.the-variants.{Letters}
 use Rattle.output.specs.Text.{row, rowRoom}
 use Rattle.entries.specs.declared.Phase.the-variants.{Opening}
+use Rattle.entries.specs.declared.Fault.the-variants.{WrongForm}
+use Rattle.entries.specs.Words.{faultNumber}
 use Rattle.transcript.specs.declared.Progress.{Progress}
 use Rattle.ledger.specs.Store.{Store, store}
 use Rattle.ledger.specs.Step.{Guards, step}
@@ -43,18 +46,18 @@ reply G p s = row (p .number) (step G (p .kept) (finished s) .answer) (step G (p
 -- where the transcript stands behind bytes
 unfoldable pub after : Guards → Standing → List ℕ → Standing
 after G p [] = p
-after G p (b ∷ l) = after G (if eqb b 10 then replied G p (p .reader) else reading p (stepOf (p .reader) b)) l
+after G p (b ∷ l) = after G (if eqb b newline then replied G p (p .reader) else reading p (stepOf (p .reader) b)) l
 
 -- what bytes make it write
 unfoldable pub emitted : Guards → Standing → List ℕ → List ℕ
 emitted G p [] = []
 emitted G p (b ∷ l) =
-    if eqb b 10 then reply G p (p .reader) ++ emitted G (replied G p (p .reader)) l else
+    if eqb b newline then reply G p (p .reader) ++ emitted G (replied G p (p .reader)) l else
     emitted G (reading p (stepOf (p .reader) b)) l
 
 -- what is written at the end of the input: a line without its newline is refused
 unfoldable pub closing : ℕ → Reader → List ℕ
-closing number s = if fresh s then [] else row number 10 0
+closing number s = if fresh s then [] else row number (faultNumber WrongForm) 0
 
 -- ---- a block
 
@@ -82,7 +85,7 @@ unfoldable pub serving : Guards → ℕ → Bool → Standing → List ℕ → S
 serving G room between p [] = halt p
 serving G room between p (b ∷ l) =
     if between and full room (p .number) then halt p else
-    if eqb b 10 then ahead 1 (reply G p (p .reader)) (serving G (room - length (reply G p (p .reader))) true (replied G p (p .reader)) l) else
+    if eqb b newline then ahead 1 (reply G p (p .reader)) (serving G (room - length (reply G p (p .reader))) true (replied G p (p .reader)) l) else
     ahead 1 [] (serving G room false (reading p (stepOf (p .reader) b)) l)
 
 -- out′ and the places next and used are those of a block served from a place on

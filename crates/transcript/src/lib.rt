@@ -1,4 +1,5 @@
 // Transcripts in blocks of input and output.
+use entries::Fault;
 use entries::Phase;
 use lines::Fed;
 use lines::Reader;
@@ -130,5 +131,5 @@ pub fn conclude(p: Progress, out: &mut [u8]) -> usize
     if reader.is_fresh() {
         return 0;
     }
-    output::put_row(out, 0, number, 10, 0)
+    output::put_row(out, 0, number, entries::fault_number(Fault::WrongForm), 0)
 }

@@ -1,7 +1,6 @@
 -- `due_of` meets its contract. Assumes nothing.
 use borrow.Author.Needs.{needs}
-use mathlib.Core.Path.{ap, _∙_}
-use Rattle.entries.specs.Words.{dueIn, dueOf}
+use Rattle.entries.specs.Words.{dueOf}
 use Rattle.entries.proofs.due_of.Statement.{statement}
 use Rattle.entries.proofs.due_of.Tie as tie
 
@@ -10,6 +9,10 @@ unfolding dueOf
 due-of-spec =
     tie.close
     (tie.spec
+    (λ c. search needs)
     (λ c κs. search needs)
     (λ c κs. search needs)
-    (λ c. c .due-in .ensures ∙ ap (dueIn _) (c .before .item-in .ensures)))
+    (λ c κs. search needs)
+    (λ c. search needs)
+    (λ c. rw (c .before .before .before .before .l .given .1, c .due-in .ensures, c .before .item-in .ensures, c .before .before .numbers-of .ensures))
+    (λ c. rw (c .enum-told .given .1)))

@@ -14,5 +14,6 @@ conclude-spec =
     (λ c κs. search needs)
     (λ c. rw (closing-fresh _ _ (sym (c .before .is-fresh .ensures) ∙ c .if1 .taken)) (wrote-no-row _ _, omega arith))
     (λ c κs. search needs)
+    (λ c κs. search needs)
     (λ c. search needs)
-    (λ c. rw (closing-begun _ _ (sym (c .before .before .before .before .before .is-fresh .ensures) ∙ c .before .before .before .before .if1 .left)) (c .before .before .put-row .ensures, wrote-within _ _ _ _ _ (omega arith) (length-row _ 10 0) (c .before .before .put-row .ensures))))
+    (λ c. rw (closing-begun _ _ (sym (c .before .before .before .before .before .before .is-fresh .ensures) ∙ c .before .before .before .before .before .if1 .left) (c .before .before .before .fault-number .ensures)) (c .before .before .put-row .ensures, wrote-within _ _ _ _ _ (omega arith) (length-row _ _ 0) (c .before .before .put-row .ensures))))
