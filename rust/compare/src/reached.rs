@@ -1,7 +1,7 @@
 //! Which answers and refusals were reached, and which have to be.
 
 use crate::case::Step;
-use crate::words::{Layer, Word};
+use crate::words::{Layer, Word, OTHER_CALLS};
 use std::collections::BTreeMap;
 
 /// How often each answer was reached: the call or the line, and its numbers.
@@ -72,15 +72,6 @@ fn line_answer(mode: Option<Layer>, name: &str, fields: Option<usize>, [answer, 
     let fields = fields.map_or("of wrong form".to_string(), |fields| format!("with {fields} fields"));
     format!("{mode}: {name} {fields}: {answer} {spent}")
 }
-
-/// The calls that are no requests, and every answer of each.
-const OTHER_CALLS: [(&str, &[u64]); 5] = [
-    ("role set-up", &[1, 12, 18, 20]),
-    ("label set-up", &[1, 12, 18, 19]),
-    ("alike", &[0, 1, 12, 13]),
-    ("permissions", &[1, 12, 13, 16]),
-    ("authorised", &[1, 12, 13, 16]),
-];
 
 /// Every answer and refusal of every call.
 pub fn every_call() -> Vec<String> {

@@ -1,5 +1,7 @@
 //! The words of a transcript in each mode, after the scope's tables: what a word's fields name, the code of a request, and
-//! the answers. What has to be reached (`every_call`, `every_transcript`) is derived from this one list.
+//! the answers. What has to be reached (`every_call`, `every_transcript`) is derived from this one page.
+
+use Field::{Label, LabelMode, Mode, Object, Role, Session, User};
 
 /// The layer that a table is set up for; in a transcript the mode.
 #[derive(Clone, Copy, Debug, PartialEq, Eq)]
@@ -46,8 +48,6 @@ const NO: [u64; 2] = [0, 1];
 const YES: [u64; 2] = [1, 1];
 const NO_PERMISSION: [u64; 2] = [17, 0];
 
-use Field::{Label, LabelMode, Mode, Object, Role, Session, User};
-
 const ROLES: [Word; 13] = [
     set_up("above", &[Role, Role], &[ACCEPTED]),
     set_up("permit", &[Mode, Object], &[ACCEPTED]),
@@ -73,6 +73,15 @@ const LABELS: [Word; 8] = [
     request(3, "start", &[Session, User, Label], &[NO, [0, 3], [1, 3]]),
     request(4, "end", &[Session], &[NO, YES]),
     request(5, "reclear", &[User, Label], &[[0, 3], [1, 0], [1, 2]]),
+];
+
+/// The calls that are no requests, and every answer of each.
+pub const OTHER_CALLS: [(&str, &[u64]); 5] = [
+    ("role set-up", &[1, 12, 18, 20]),
+    ("label set-up", &[1, 12, 18, 19]),
+    ("alike", &[0, 1, 12, 13]),
+    ("permissions", &[1, 12, 13, 16]),
+    ("authorised", &[1, 12, 13, 16]),
 ];
 
 impl Layer {
