@@ -1,7 +1,7 @@
 //! Measuring one call on several guards in turn.
 
 use crate::calls::Call;
-use compare::{Guard, PLAIN, REFERENCE};
+use compare::{Guard, PLAIN, REFERENCE, WORDS};
 use std::fmt::{self, Display, Formatter};
 use std::hint::black_box;
 use std::time::{Duration, Instant};
@@ -100,7 +100,7 @@ fn turns(run: impl Fn(u64) -> Duration) -> u64 {
 
 /// The limit: every word of a table read once.
 pub fn plain_read(rounds: usize) -> Times {
-    let table = vec![1u64; 968];
+    let table = vec![1u64; WORDS];
     let run = |count: u64| {
         let begin = Instant::now();
         for _ in 0..count {

@@ -1,6 +1,6 @@
 //! The tables that calls are measured on.
 
-use compare::{Guard, PLAIN};
+use compare::{Guard, PLAIN, WORDS};
 
 const GUARD: Guard = PLAIN;
 
@@ -15,7 +15,7 @@ fn not_refused(answer: u64) {
 }
 
 fn set_up(juniors: &[u64], permissions: &[u64]) -> Vec<u64> {
-    let mut table = vec![0; 968];
+    let mut table = vec![0; WORDS];
     assert_eq!((GUARD.role_setup)(&mut table, juniors, permissions), 1);
     table
 }
@@ -73,7 +73,7 @@ pub fn plant() -> Vec<u64> {
 pub fn labels() -> Vec<u64> {
     let clearances: Vec<u8> = (0..64).map(|user| user % 32).collect();
     let labels: Vec<u8> = (0..64).map(|object| object * 5 % 32).collect();
-    let mut table = vec![0; 968];
+    let mut table = vec![0; WORDS];
     assert_eq!((GUARD.label_setup)(&mut table, &clearances, &labels), 1);
     let mut spent = 0;
     for session in 0..16 {

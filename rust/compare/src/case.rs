@@ -45,6 +45,6 @@ impl Step {
     }
 }
 
-/// Steps on a table of 968 words that are 0, the kept copy like it.
+/// Steps on a table whose words are 0, the kept copy like it.
 #[derive(Clone, Debug, Default, PartialEq, Eq)]
 pub struct Case(pub Vec<Step>);

@@ -3,6 +3,7 @@
 use crate::case::{Case, Step};
 use crate::random::Random;
 use crate::words::{Field, Layer};
+use reference::WORDS;
 
 /// The few numbers that most arguments of a case come from.
 struct World {
@@ -230,7 +231,7 @@ fn any_call(random: &mut Random, world: &World) -> Step {
 }
 
 /// Where each section of the table begins, and its end.
-const SECTIONS: [u64; 8] = [0, 64, 72, 136, 648, 680, 712, 968];
+const SECTIONS: [u64; 8] = [0, 64, 72, 136, 648, 680, 712, WORDS as u64];
 
 /// A place in a random section.
 fn place(random: &mut Random) -> usize {
@@ -315,7 +316,7 @@ pub fn damage_everywhere(random: &mut Random, layer: Layer) -> Vec<Case> {
 pub fn set_ups(random: &mut Random) -> Case {
     Case(list(random, 12, |random| match random.below(12) {
         0 => wrong_length(random),
-        1 => Step::Length(968),
+        1 => Step::Length(WORDS),
         2 => damage(random),
         3..=7 => odd_role_setup(random),
         _ => odd_label_setup(random),

@@ -23,6 +23,7 @@ pub use guard::PROVED;
 pub use guard::{Guard, GUARDS, PLAIN, REFERENCE};
 pub use random::Random;
 pub use reached::{every_call, every_transcript, Reached};
+pub use reference::WORDS;
 pub use run::{check, compare, Reply, Run, LENT};
 pub use transcripts::{check_transcript, difference, random_transcript, readers, Reader};
 pub use words::Layer;

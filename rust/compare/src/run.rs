@@ -4,6 +4,7 @@ use crate::case::{Case, Step};
 use crate::guard::{Guard, GUARDS, REFERENCE};
 use crate::reached::Reached;
 use crate::shrink::{shrink, simplify};
+use reference::WORDS;
 
 /// What one guard has made of the steps so far.
 pub struct Run {
@@ -29,7 +30,7 @@ pub const LENT: u64 = 0x5555_aaaa_5555_aaaa;
 
 impl Default for Run {
     fn default() -> Run {
-        Run { table: vec![0; 968], kept: vec![0; 968] }
+        Run { table: vec![0; WORDS], kept: vec![0; WORDS] }
     }
 }
 

@@ -2,7 +2,7 @@
 
 use compare::{
     check, damage_everywhere, damaged, every_call, likeness, requests, set_ups, Case, Guard, Layer, Random, Reached,
-    GUARDS, REFERENCE,
+    GUARDS, REFERENCE, WORDS,
 };
 
 const _: () = assert!(!reference::WRONG, "tests are built without a wrong turn");
@@ -63,7 +63,7 @@ fn every_word_of_a_label_table_damaged() {
 
 /// What the readings answer and write where they are lent too few words or too many.
 fn readings(guard: &Guard) -> Vec<(u64, Vec<u64>)> {
-    let mut table = [0; 968];
+    let mut table = [0; WORDS];
     assert_eq!((guard.role_setup)(&mut table, &[0; 64], &[0; 8]), 1);
     let permissions = [0, 1, 7, 9].map(|length| {
         let mut masks = vec![7; length];

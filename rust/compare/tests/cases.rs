@@ -2,7 +2,7 @@
 //! (`crates/cases`), whose expected output is the list of answers here too, and the points of bench case J.
 
 use compare::{compare, Case, Guard, Reached, Run, Step, GUARDS, LENT, REFERENCE};
-use reference::Label;
+use reference::{Label, WORDS};
 
 const _: () = assert!(!reference::WRONG, "tests are built without a wrong turn");
 
@@ -54,14 +54,14 @@ const CONFUSED: &str = "
 const PAIRS: [(u64, u64); 10] =
     [(9, 10), (10, 9), (10, 1), (1, 10), (9, 1), (17, 18), (18, 17), (31, 0), (0, 31), (0, 0)];
 
-/// Rows from 601: 967 words, 969 words, and label 32 in each list of a set-up.
+/// Rows from 601: a word less, a word more, and label 32 in each list of a set-up.
 fn refused() -> Case {
     Case(vec![
-        Step::Length(967),
+        Step::Length(WORDS - 1),
         Step::Role([4, 0, 0, 0]),
-        Step::Length(969),
+        Step::Length(WORDS + 1),
         Step::Role([4, 0, 0, 0]),
-        Step::Length(968),
+        Step::Length(WORDS),
         Step::LabelSetup { clearances: vec![32; 64], labels: vec![0; 64] },
         Step::LabelSetup { clearances: vec![0; 64], labels: vec![32; 64] },
     ])
@@ -202,7 +202,7 @@ fn case_j_label_32() {
     }
 }
 
-/// Every call that takes a table, with its answers (and spent) on 968 words and on another number of words. Likeness
+/// Every call that takes a table, with its answers (and spent) on as many words as a table has and on another number. Likeness
 /// answers for the table as the second and as the first.
 fn calls() -> [(Step, Vec<u64>, Vec<u64>); 7] {
     [
@@ -219,7 +219,7 @@ fn calls() -> [(Step, Vec<u64>, Vec<u64>); 7] {
 #[test]
 fn case_j_other_lengths() {
     for guard in guards() {
-        for words in [0, 967, 968, 969] {
+        for words in [0, WORDS - 1, WORDS, WORDS + 1] {
             let mut run = Run::default();
             for step in case("lattice; clear 5 31; run; start 3 5 9").0 {
                 assert_eq!(run.step(guard, &step).map(|reply| reply.answers[0]), Some(1));
@@ -229,10 +229,10 @@ fn case_j_other_lengths() {
             for (step, whole, other) in calls() {
                 let before = run.table.clone();
                 let reply = run.step(guard, &step).expect("a guard takes part");
-                let expected = if words == 968 { whole } else { other };
+                let expected = if words == WORDS { whole } else { other };
                 assert_eq!(reply.answers, expected, "{step:?} on {words} words by the {}", guard.name);
                 let kept = run.table == before && reply.words.iter().all(|word| *word == LENT);
-                assert!(kept || words == 968, "{step:?} on {words} words is refused and writes");
+                assert!(kept || words == WORDS, "{step:?} on {words} words is refused and writes");
             }
         }
     }

@@ -1,6 +1,6 @@
 //! The sheet guard a second time, as sets and relations, for comparison with the proved one.
 //!
-//! It is written from the scope alone and is as plain as it can be: a table of 968 words is read into sets
+//! It is written from the scope alone and is as plain as it can be: a table of words is read into sets
 //! ([`State`]), a label table further into a Bell-LaPadula machine ([`Machine`]), the request is carried out there by
 //! the words of the scope, and the table is written anew. Nothing here is fast, and no bit is ever masked.
 //!
@@ -16,6 +16,7 @@ mod turns;
 
 pub use labels::{Label, Machine};
 pub use state::State;
+pub use table::WORDS;
 pub use turns::WRONG;
 
 /// Yes or no, or the number of a refusal.

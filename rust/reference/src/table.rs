@@ -1,4 +1,4 @@
-//! The table of 968 words: reading it into sets, and writing sets into it.
+//! The table of words: reading it into sets, and writing sets into it.
 
 use crate::state::{State, MODES, OBJECTS, ROLES, SESSIONS, USERS};
 
@@ -8,11 +8,13 @@ const GRANTED: u64 = ASSIGNED + USERS;
 const OWNER: u64 = GRANTED + MODES * OBJECTS;
 const ACTIVE: u64 = OWNER + SESSIONS;
 const HOLDS: u64 = ACTIVE + SESSIONS;
-const WORDS: u64 = HOLDS + SESSIONS * MODES;
 
-/// Refusal 12: the table has not 968 words.
+/// The number of words of a table.
+pub const WORDS: usize = (HOLDS + SESSIONS * MODES) as usize;
+
+/// Refusal 12: the table has not its number of words.
 pub fn is_table(words: &[u64]) -> Result<(), u64> {
-    if words.len() as u64 == WORDS {
+    if words.len() == WORDS {
         Ok(())
     } else {
         Err(12)
@@ -75,7 +77,7 @@ fn put(state: &mut State, at: u64, member: u64) {
     };
 }
 
-/// Writes the 968 words that say what the state does.
+/// Writes the words that say what the state does.
 pub fn write(state: &State, words: &mut [u64]) {
     words.fill(0);
     state.seniority.iter().for_each(|(r, q)| add(words, *r, *q));
