@@ -1,35 +1,48 @@
 -- Where blocks of input lead, one after the other. Assumes nothing.
 use mathlib.Core.Path.{_≡_, refl, sym, ap, _∙_}
 use mathlib.Core.Bool.{Bool, true, false}
-use mathlib.Core.List.{List, [], _++_}
-use Prim.Native.Nat.{ℕ}
+use mathlib.Core.List.{List, [], _∷_, _++_}
+use Prim.Native.Nat.{ℕ, zero, suc}
+use lib.ListN.{replicate}
 use Rattle.bits.proofs.Truth.{clash}
+use Rattle.table.specs.Table.{tableLength, tabulate}
 use Rattle.ledger.specs.Step.{unguarded}
 use Rattle.transcript.specs.declared.Progress.{Progress}
-use Rattle.transcript.specs.Stream.{Standing, standing, after}
+use Rattle.transcript.specs.Stream.{Standing, standing, started, after}
+use Rattle.transcript.specs.Document.{blank}
 use Rattle.transcript.proofs.Pieces.{after-none, after-append}
-use Rattle.guard.specs.Block.{Behind, Led}
+use Rattle.guard.specs.Block.{Behind, beginning, Led}
 
 -- where output was not written, nothing is said
 pub block-unwritten : {p q : Standing} {block : List ℕ} → Behind false p block q
 block-unwritten = record { stands-is = λ e. clash e refl }
 
-pub unwritten : {p q : Standing} → Led false p q
+pub unwritten : {p : Standing} → Led false p
 unwritten = record { input = []; stands-is = λ e. clash e refl }
 
-pub led-start : (table juniors permissions clearances labels : List ℕ) {p q : Progress} → q ≡ p
-    → Led true (standing p table juniors permissions clearances labels) (standing q table juniors permissions clearances labels)
-led-start table juniors permissions clearances labels {p} e = record {
-  input = [];
-  stands-is = λ z.
-      ap (λ (r : Progress). standing r table juniors permissions clearances labels) e
-      ∙ sym (after-none unguarded (standing p table juniors permissions clearances labels));
-}
+-- an array of zeros
+pub zeros : (n : ℕ) → replicate {A = ℕ} n 0 ≡ tabulate n (λ i. 0)
+unfolding tabulate
+zeros zero = refl
+zeros (suc n) = ap (λ (l : List ℕ). 0 ∷ l) (zeros n)
+
+-- before the first byte
+pub at-first : {table juniors permissions clearances labels : List ℕ} → table ≡ tabulate tableLength (λ i. 0) → juniors ≡ tabulate 64 (λ r. 0)
+    → permissions ≡ tabulate 8 (λ x. 0) → clearances ≡ tabulate 64 (λ u. 0) → labels ≡ tabulate 64 (λ o. 0)
+    → standing started table juniors permissions clearances labels ≡ beginning
+unfolding blank
+at-first t j p c l = rw (t, j, p, c, l)
+
+-- no block
+pub led-none : {p q : Progress} {table juniors permissions clearances labels : List ℕ}
+    → standing p table juniors permissions clearances labels ≡ beginning → q ≡ p
+    → Led true (standing q table juniors permissions clearances labels)
+led-none b e = rw (e, b) record { input = []; stands-is = λ z. sym (after-none unguarded beginning) }
 
 -- a block more
-pub led-on : {start p q : Standing} {block : List ℕ} {whole : Bool} → Led true start p → Behind whole p block q → whole ≡ true → Led true start q
-led-on {start} {p} {q} {block} l b w = record {
+pub led-on : {p q : Standing} {block : List ℕ} {whole : Bool} → Led true p → Behind whole p block q → whole ≡ true → Led true q
+led-on {block = block} l b w = record {
   input = l .input ++ block;
   stands-is = λ z.
-      b .stands-is w ∙ ap (λ (s : Standing). after unguarded s block) (l .stands-is refl) ∙ sym (after-append unguarded start (l .input) block);
+      b .stands-is w ∙ ap (λ (s : Standing). after unguarded s block) (l .stands-is refl) ∙ sym (after-append unguarded beginning (l .input) block);
 }

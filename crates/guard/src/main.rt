@@ -4,8 +4,9 @@ use libc::STDIN_FILENO;
 use libc::STDOUT_FILENO;
 use table::layout::WORDS;
 use transcript::Progress;
+ghost use mathlib.Core.Path.{_≡_};
 ghost use Rattle.transcript.specs.Stream.{standing, started};
-ghost use Rattle.guard.specs.Block.{Behind, Led};
+ghost use Rattle.guard.specs.Block.{Behind, beginning, Led};
 
 // What came of input: where the transcript stands, and whether all was read and written.
 struct Block {
@@ -73,7 +74,8 @@ fn serve_all(
     block: &mut [u8],
     out: &mut [u8],
 ) -> Block
-    ensures { λ r. ⌜ Led (r .whole) (standing started (now (table .entry)) (now (juniors .entry)) (now (permissions .entry)) (now (clearances .entry)) (now (labels .entry))) (standing (r .progress) (now (table .exit)) (now (juniors .exit)) (now (permissions .exit)) (now (clearances .exit)) (now (labels .exit))) ⌝ }
+    requires { ⌜ standing started (now table) (now juniors) (now permissions) (now clearances) (now labels) ≡ beginning ⌝ }
+    ensures { λ r. ⌜ Led (r .whole) (standing (r .progress) (now (table .exit)) (now (juniors .exit)) (now (permissions .exit)) (now (clearances .exit)) (now (labels .exit))) ⌝ }
 {
     let mut q = transcript::start();
     let mut turns: u64 = 70368744177664;

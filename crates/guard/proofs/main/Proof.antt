@@ -1,8 +1,10 @@
--- `main` meets its contract. Assumes nothing.
+-- `main` meets its contract: the arrays that it lends are those of the beginning. Assumes nothing.
 use borrow.Author.Needs.{needs}
 use mathlib.Core.Path.{sym}
 use native.Mathlib.Omega.{arith}
 use lib.Seq.{length-take-le}
+use Rattle.table.specs.Table.{tableLength}
+use Rattle.guard.proofs.Leading.{zeros, at-first}
 use Rattle.guard.proofs.main.Statement.{statement}
 use Rattle.guard.proofs.main.Tie as tie
 
@@ -22,7 +24,7 @@ main-spec =
     (λ c. search needs)
     (λ c. search needs)
     (λ c. search needs)
-    (λ c κs. search needs)
+    (λ c κs. at-first (zeros tableLength) (zeros 64) (zeros 8) (zeros 64) (zeros 64))
     (λ c κs. search needs)
     (λ c. search needs)
     (λ c. search needs)

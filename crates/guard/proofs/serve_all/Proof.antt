@@ -1,13 +1,13 @@
--- `serve_all` meets its contract: the blocks so far have led to where it stands. Assumes nothing.
+-- `serve_all` meets its contract: the blocks so far have led from the beginning to where it stands. Assumes nothing.
 use borrow.Author.Needs.{needs}
 use mathlib.Core.Path.{_≡_, _∙_, refl}
 use mathlib.Core.Bool.{true}
 use native.Mathlib.Omega.{arith}
 use lib.ListN.{length}
 use Rattle.bits.proofs.Truth.{confirmed}
-use Rattle.transcript.specs.Stream.{standing, started}
+use Rattle.transcript.specs.Stream.{standing}
 use Rattle.guard.specs.Block.{Led}
-use Rattle.guard.proofs.Leading.{unwritten, led-start, led-on}
+use Rattle.guard.proofs.Leading.{unwritten, led-none, led-on}
 use Rattle.guard.proofs.serve_all.Statement.{statement}
 use Rattle.guard.proofs.serve_all.Tie as tie
 
@@ -15,7 +15,7 @@ abbrev Inv-loop : tie.InvT-loop
 Inv-loop table₀ juniors₀ permissions₀ clearances₀ labels₀ block₀ out₀ q₀ turns₀ table juniors permissions clearances labels block out q turns =
     (length table ≡ length table₀) × (length juniors ≡ length juniors₀) × (length permissions ≡ length permissions₀)
     × (length clearances ≡ length clearances₀) × (length labels ≡ length labels₀) × (length block ≡ length block₀) × (length out ≡ length out₀)
-    × Led true (standing started table₀ juniors₀ permissions₀ clearances₀ labels₀) (standing q table juniors permissions clearances labels)
+    × Led true (standing q table juniors permissions clearances labels)
 
 abbrev μ-loop : tie.MeasureT-loop
 μ-loop table₀ juniors₀ permissions₀ clearances₀ labels₀ block₀ out₀ q₀ turns₀ table juniors permissions clearances labels block out q turns = turns
@@ -41,7 +41,7 @@ serve-all-spec =
     Inv-loop
     μ-loop
     (λ c κs. search needs)
-    (λ c. (refl, refl, refl, refl, refl, refl, refl, led-start _ _ _ _ _ (c .start .ensures)))
+    (λ c. (refl, refl, refl, refl, refl, refl, refl, led-none (c .before .before .before .before .before .before .before .before .pre) (c .start .ensures)))
     (λ c κs. search needs)
     (λ c. c .before .before .before .before .before .before .loop .inv .0)
     (λ c. c .before .before .before .before .before .before .loop .inv .1)
