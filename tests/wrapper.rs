@@ -213,9 +213,10 @@ fn no_output_at_all() {
     assert_ne!(said, "");
 }
 
+/// Signals that no caller has a program ignore, as a shell does with INT for what it runs in the background.
 #[test]
 fn signals() {
-    for (name, number) in [("TERM", 15), ("KILL", 9), ("SEGV", 11), ("INT", 2)] {
+    for (name, number) in [("TERM", 15), ("KILL", 9), ("SEGV", 11)] {
         let r = Repository::with_program(&format!("signals-{name}"), &format!("echo row; kill -{name} $$"));
         r.says("");
         assert_eq!(r.says(""), (128 + number, "row\n".into(), format!("guard: ended by signal {number}\n")), "{name}");
