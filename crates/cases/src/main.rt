@@ -1,6 +1,7 @@
 // Runs the bench cases of the scope and the vectors of the sources through the compiled guard, and writes a row for each: its
 // number, its answer, and what it spent. Rows from 101: A to H and J; from 201: vector A of source 000; from 301: the scope's
-// label listing, and label 32; from 401: labels that are easily confused; from 501: dominance; from 601: wrong lengths and values.
+// label listing, and label 32; from 401: labels that are easily confused; from 501: dominance; from 601: wrong lengths and
+// values; from 701: starts with roles chosen.
 ghost use mathlib.Core.Path.{_≡_};
 ghost use Prim.Native.Nat.{_≤_};
 ghost use lib.ListN.{length};
@@ -332,6 +333,74 @@ const LISTING: [u64; 40] = [
 // A session at level 9 beside labels 9 and 10.
 const CONFUSED: [u64; 16] = [3, 0, 0, 9, 1, 0, 1, 0, 1, 0, 2, 1, 1, 0, 1, 1];
 
+// Role requests: user 2 is assigned role 3, and starts are asked for with roles authorised for it and others.
+const CHOSEN: [u64; 64] = [
+    7,
+    2,
+    3,
+    0,
+    9,
+    1,
+    0,
+    9,
+    3,
+    0,
+    2,
+    10,
+    3,
+    1,
+    2,
+    40,
+    3,
+    1,
+    2,
+    18446744073709551615,
+    3,
+    32,
+    2,
+    18446744073709551615,
+    3,
+    1,
+    2,
+    0,
+    3,
+    1,
+    2,
+    8,
+    1,
+    0,
+    9,
+    0,
+    1,
+    1,
+    9,
+    0,
+    3,
+    2,
+    2,
+    8,
+    6,
+    2,
+    3,
+    0,
+    1,
+    2,
+    9,
+    0,
+    3,
+    3,
+    64,
+    0,
+    3,
+    4,
+    3,
+    1,
+    3,
+    4,
+    3,
+    0,
+];
+
 // Writes a row; whether it was written.
 fn show(number: u64, answer: u64, spent: u64) -> bool {
     let mut out = [0u8; 63];
@@ -399,8 +468,10 @@ fn compare(number: u64, a: u64, b: u64) -> bool {
     show(number, 0, 0)
 }
 
-// Role 5 above 3, 3 above 1; only (0, 9) a permission.
-fn bench_cases() -> bool {
+// Role requests after a set-up with role 5 above 3, 3 above 1, and only (0, 9) a permission.
+fn bench_table(words: &[u64], first: u64) -> bool
+    requires { ⌜ (first ≤ 1000) × (1 ≤ first) × (length (now words) ≤ 1000) ⌝ }
+{
     let mut table = [0u64; WORDS];
     let mut direct = [0u64; 64];
     let mut permissions = [0u64; 8];
@@ -408,10 +479,10 @@ fn bench_cases() -> bool {
     direct[3] = 2;
     permissions[0] = 512;
     let answer = setup::role_setup(&mut table, &direct, &permissions);
-    if !show(100, roles::number(answer), 0) {
+    if !show(first - 1, roles::number(answer), 0) {
         return false;
     }
-    play_roles(&mut table, &BENCH, 101)
+    play_roles(&mut table, words, first)
 }
 
 // Role 1 above 2, 3 above 4; (0, 1), (0, 2), (1, 1) and (1, 2) permissions.
@@ -524,7 +595,7 @@ fn refused_cases() -> bool {
 }
 
 fn main() {
-    if !bench_cases() {
+    if !bench_table(&BENCH, 101) {
         return;
     }
     if !source_cases() {
@@ -539,5 +610,8 @@ fn main() {
     if !dominance_cases() {
         return;
     }
-    refused_cases();
+    if !refused_cases() {
+        return;
+    }
+    bench_table(&CHOSEN, 701);
 }

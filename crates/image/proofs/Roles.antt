@@ -3,9 +3,10 @@ use Prim.Native.Nat.{ℕ, zero, suc, _+_, _-_, _^_, _≤_, _<_}
 use mathlib.Core.Path.{_≡_, sym, ap, subst, _∙_}
 use mathlib.Core.Bool.{true, false}
 use native.Mathlib.Omega.{arith}
-use Rattle.bits.specs.Words.{has, pack, _with_}
+use Rattle.bits.specs.Words.{has, each, pack, _with_}
 use Rattle.bits.proofs.Truth.{clash, same-truth}
 use Rattle.bits.proofs.Word.{has-zero, has-pack, with-lt, with-elim, with-new, with-old}
+use Rattle.bits.proofs.Members.{each-intro, each-elim}
 use Rattle.table.specs.State.{State}
 use Rattle.table.specs.Authority.{senior, authorised}
 use Rattle.table.proofs.State.{authorised-intro, authorised-elim}
@@ -128,3 +129,12 @@ module _ (S : State) (f : (r : ℕ) → r < 64 → S .juniors r ≡ pack 64 (abo
         by-writing : (r : ℕ) → r ≡ 32 → Over r y → dominates c y ≡ true
         by-writing r z (reads l m d) = absurd (omega arith)
         by-writing r z (writes l m d) = absurd (omega arith)
+
+    -- both roles of a session at level y, where c dominates y
+    pub authorised-seat : (v y : ℕ) → y < 32 → each (seatRoles (at v y)) (authorised S u) ≡ dominates c y
+    authorised-seat v y k =
+        same-truth
+        (λ a. sym (authorised-read y k) ∙ each-elim (seatRoles (at v y)) (authorised S u) a y (omega arith) (seat-reads v y k))
+        (λ d. each-intro (seatRoles (at v y)) (authorised S u) (λ r l m. seat-elim v y r l m
+        (λ z. ap (authorised S u) z ∙ authorised-read y k ∙ d)
+        (λ z. ap (authorised S u) z ∙ authorised-write y k)))

@@ -1,5 +1,5 @@
 -- What the translation of each label request comes to, from the answers of the role requests. Assumes nothing.
-use Prim.Native.Nat.{ℕ, _+_}
+use Prim.Native.Nat.{ℕ}
 use mathlib.Core.Path.{_≡_, refl, ap, _∙_}
 use mathlib.Core.Bool.{true, false}
 use mathlib.Core.List.{List}
@@ -7,9 +7,9 @@ use lib.Dec.{eqb}
 use Rattle.bits.proofs.Truth.{if-true, if-false, past, stopped}
 use Rattle.table.specs.Reading.{state}
 use Rattle.roles.specs.Request.{Ask, ask, Outcome}
-use Rattle.machine.specs.Machine.{starting, reclearing}
+use Rattle.machine.specs.Machine.{reclearing}
 use Rattle.image.specs.Test.{machineOf}
-use Rattle.labels.specs.Guard.{Plan, RoleGuard, single, startPlan, reclearPlan, saysYes, plan, run, carryOut}
+use Rattle.labels.specs.Guard.{Plan, RoleGuard, single, reclearPlan, saysYes, plan, run, carryOut}
 
 module _ (guard : RoleGuard) (t : List ℕ) where
   -- the answer to a role request is yes, or no
@@ -27,28 +27,6 @@ module _ (guard : RoleGuard) (t : List ℕ) where
   pub single-carried : (q : Ask) → carryOut guard t (single guard t q) ≡ record { answer = guard t q .answer; spent = 1; state = guard t q .state }
   unfolding carryOut single run
   single-carried q = refl
-
-  module _ (s u y : ℕ) where
-    abbrev begun : List ℕ
-    begun = guard t (ask 3 s u 0) .state
-
-    abbrev read : List ℕ
-    read = guard begun (ask 5 s y 0) .state
-
-    pub start-busy : saysYes guard t (ask 3 s u 0) ≡ false
-        → carryOut guard t (plan guard t (starting s u y)) ≡ record { answer = 0; spent = 1; state = begun }
-    unfolding carryOut plan startPlan run
-    start-busy b = carried (stopped _ _ b)
-
-    pub start-uncleared : saysYes guard t (ask 3 s u 0) ≡ true → saysYes guard begun (ask 5 s y 0) ≡ false
-        → carryOut guard t (plan guard t (starting s u y)) ≡ record { answer = 0; spent = 3; state = guard read (ask 4 s 0 0) .state }
-    unfolding carryOut plan startPlan run
-    start-uncleared b c = carried (past _ _ b ∙ stopped _ _ c)
-
-    pub start-cleared : saysYes guard t (ask 3 s u 0) ≡ true → saysYes guard begun (ask 5 s y 0) ≡ true
-        → carryOut guard t (plan guard t (starting s u y)) ≡ record { answer = 1; spent = 3; state = guard read (ask 5 s (32 + y) 0) .state }
-    unfolding carryOut plan startPlan run
-    start-cleared b c = carried (past _ _ b ∙ past _ _ c)
 
   module _ (u c : ℕ) where
     abbrev old : ℕ

@@ -12,11 +12,11 @@ use Rattle.table.specs.Table.{isTable}
 use Rattle.table.specs.Reading.{state}
 use Rattle.sound.specs.Answers.{isSound}
 use Rattle.sound.proofs.Answers.{sound-state, sound-table}
-use Rattle.roles.specs.Request.{Ask, ask, Outcome}
+use Rattle.roles.specs.Request.{Ask, Outcome}
 use Rattle.roles.specs.Guard.{roleStep}
 use Rattle.machine.specs.Machine.{Request, opening, closing, starting, ending, reclearing, isCode, inRange, decode}
 use Rattle.image.specs.Test.{machineOf, isImage}
-use Rattle.labels.specs.Guard.{Plan, single, startPlan, reclearPlan, saysYes, plan, carryOut, labelStep}
+use Rattle.labels.specs.Guard.{Plan, single, reclearPlan, plan, carryOut, labelStep}
 use Rattle.labels.specs.Claims.{ServedSame, KeptSound, AtMostThree}
 use Rattle.labels.proofs.Refusing.{translated-code, translated-argument, translated-plan, image-step-table, label-step-short, label-step-unsound, label-step-none, label-step-image}
 use Rattle.labels.proofs.Same.{run-sound, translated-same}
@@ -52,18 +52,6 @@ kept-sound t q f =
     (λ n e. ap (λ (o : Outcome (List ℕ)). isSound (o .state)) e ∙ f)
     (λ e. ap (λ (o : Outcome (List ℕ)). isSound (o .state)) e ∙ run-sound (plan roleStep t (decode q) .requests) t f)
 
-start-short : (b c : Bool) (s u y : ℕ) → length (startPlan b c s u y .requests) ≤ 3
-unfolding startPlan
-start-short b c s u y =
-    by-truth b
-    (λ p. by-truth c
-    (λ r. at-most (past _ _ p ∙ past _ _ r) (omega arith))
-    (λ r. at-most (past _ _ p ∙ stopped _ _ r) (omega arith)))
-    (λ p. at-most (stopped _ _ p) (omega arith))
-  where
-    at-most : {p p′ : Plan} → p ≡ p′ → length (p′ .requests) ≤ 3 → length (p .requests) ≤ 3
-    at-most e h = subst (λ (p : Plan). length (p .requests) ≤ 3) (sym e) h
-
 reclear-short : (old : ℕ) (b : Bool) (u c : ℕ) → length (reclearPlan old b u c .requests) ≤ 3
 unfolding reclearPlan
 reclear-short old b u c =
@@ -80,7 +68,7 @@ plan-short : (t : List ℕ) (r : Request) → length (plan roleStep t r .request
 unfolding plan single
 plan-short t (opening s o x) = omega arith
 plan-short t (closing s o x) = omega arith
-plan-short t (starting s u y) = start-short (saysYes roleStep t (ask 3 s u 0)) _ s u y
+plan-short t (starting s u y) = omega arith
 plan-short t (ending s) = omega arith
 plan-short t (reclearing u c) = reclear-short (machineOf (state t) .clearance u) _ u c
 

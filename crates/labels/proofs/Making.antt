@@ -1,6 +1,5 @@
--- The translations of start and reclear as the code makes them: from each role request's answer and the table that it left.
--- Assumes nothing.
-use Prim.Native.Nat.{ℕ, _+_}
+-- The translation of reclear as the code makes it: from each role request's answer and the table that it left. Assumes nothing.
+use Prim.Native.Nat.{ℕ}
 use mathlib.Core.Path.{_≡_, sym, ap, _∙_}
 use mathlib.Core.Bool.{Bool, true, false, not}
 use mathlib.Core.List.{List}
@@ -9,10 +8,10 @@ use Rattle.bits.proofs.Truth.{confirmed, refuted}
 use Rattle.table.specs.Reading.{state}
 use Rattle.roles.specs.Request.{Ask, ask, Outcome}
 use Rattle.roles.specs.Guard.{soundStep}
-use Rattle.machine.specs.Machine.{starting, reclearing}
+use Rattle.machine.specs.Machine.{reclearing}
 use Rattle.image.specs.Test.{labelOf, machineOf}
 use Rattle.labels.specs.Guard.{saysYes, plan, carryOut}
-use Rattle.labels.proofs.Carrying.{start-busy, start-uncleared, start-cleared, reclear-same, reclear-kept, reclear-changed}
+use Rattle.labels.proofs.Carrying.{reclear-same, reclear-kept, reclear-changed}
 
 -- the table after one request more
 next : {l l′ l″ : List ℕ} (q : Ask) → l″ ≡ soundStep l′ q .state → l′ ≡ l → l″ ≡ soundStep l q .state
@@ -23,24 +22,6 @@ asked-of q a d = a ∙ ap (λ (l : List ℕ). saysYes soundStep l q) d
 
 result : (n f : ℕ) {l l′ : List ℕ} → l′ ≡ l → _≡_ {A = Outcome (List ℕ)} (record { answer = n; spent = f; state = l }) (record { answer = n; spent = f; state = l′ })
 result n f e = ap (λ (l : List ℕ). record { answer = n; spent = f; state = l }) (sym e)
-
-module _ (t : List ℕ) (s u y : ℕ) {b1 : Bool} {t1 : List ℕ}
-    (a1 : b1 ≡ saysYes soundStep t (ask 3 s u 0)) (e1 : t1 ≡ soundStep t (ask 3 s u 0) .state) where
-  pub not-started : not b1 ≡ true → carryOut soundStep t (plan soundStep t (starting s u y)) ≡ record { answer = 0; spent = 1; state = t1 }
-  not-started n = start-busy soundStep t s u y (refuted a1 n) ∙ result 0 1 e1
-
-  module _ {b2 : Bool} {t2 t3 : List ℕ} (a2 : b2 ≡ saysYes soundStep t1 (ask 5 s y 0)) (e2 : t2 ≡ soundStep t1 (ask 5 s y 0) .state) where
-    pub not-cleared : not b1 ≡ false → not b2 ≡ true → t3 ≡ soundStep t2 (ask 4 s 0 0) .state
-        → carryOut soundStep t (plan soundStep t (starting s u y)) ≡ record { answer = 0; spent = 3; state = t3 }
-    not-cleared k n e3 =
-        start-uncleared soundStep t s u y (confirmed a1 k) (refuted (asked-of (ask 5 s y 0) a2 e1) n)
-        ∙ result 0 3 (next (ask 4 s 0 0) e3 (next (ask 5 s y 0) e2 e1))
-
-    pub is-started : not b1 ≡ false → not b2 ≡ false → t3 ≡ soundStep t2 (ask 5 s (32 + y) 0) .state
-        → carryOut soundStep t (plan soundStep t (starting s u y)) ≡ record { answer = 1; spent = 3; state = t3 }
-    is-started k n e3 =
-        start-cleared soundStep t s u y (confirmed a1 k) (confirmed (asked-of (ask 5 s y 0) a2 e1) n)
-        ∙ result 1 3 (next (ask 5 s (32 + y) 0) e3 (next (ask 5 s y 0) e2 e1))
 
 module _ (t : List ℕ) (u c old : ℕ) (is-old : old ≡ labelOf (state t .assigned u)) where
   clearance-is : machineOf (state t) .clearance u ≡ old

@@ -1,10 +1,11 @@
 -- On a sound table it makes no difference by which of the two role guards a label request is translated. Assumes nothing.
-use Prim.Native.Nat.{ℕ}
-use mathlib.Core.Path.{_≡_, refl, sym, ap, ap₂, _∙_}
+use Prim.Native.Nat.{ℕ, _+_}
+use mathlib.Core.Path.{_≡_, refl, sym, ap, _∙_}
 use mathlib.Core.Bool.{Bool, true}
 use mathlib.Core.List.{List, [], _∷_}
 use lib.Dec.{eqb}
 use lib.ListN.{length}
+use Rattle.bits.specs.Words.{_with_}
 use Rattle.bits.proofs.Truth.{by-truth}
 use Rattle.table.specs.Reading.{state}
 use Rattle.sound.specs.Answers.{isSound}
@@ -14,7 +15,7 @@ use Rattle.roles.proofs.Claims.{served-same}
 use Rattle.roles.proofs.Steps.{step-sound}
 use Rattle.machine.specs.Machine.{Request, opening, closing, starting, ending, reclearing, isCode, inRange, decode}
 use Rattle.image.specs.Test.{machineOf}
-use Rattle.labels.specs.Guard.{single, startPlan, reclearPlan, saysYes, plan, run, carryOut, translated}
+use Rattle.labels.specs.Guard.{single, reclearPlan, saysYes, plan, run, carryOut, translated}
 use Rattle.labels.proofs.Refusing.{translated-code, translated-argument, translated-plan}
 
 yes-same : (t : List ℕ) → isSound t ≡ true → (q : Ask) → saysYes soundStep t q ≡ saysYes roleStep t q
@@ -40,7 +41,7 @@ module _ (t : List ℕ) (f : isSound t ≡ true) where
   unfolding plan
   plan-same (opening s o x) = single-same (ask 1 s o x)
   plan-same (closing s o x) = single-same (ask 2 s o x)
-  plan-same (starting s u y) = ap₂ (λ (b c : Bool). startPlan b c s u y) (yes-same t f (ask 3 s u 0)) (yes-next (ask 3 s u 0) (ask 5 s y 0))
+  plan-same (starting s u y) = single-same (ask 3 s u (0 with y with (32 + y)))
   plan-same (ending s) = single-same (ask 4 s 0 0)
   plan-same (reclearing u c) =
       ap (λ (b : Bool). reclearPlan (machineOf (state t) .clearance u) b u c) (yes-next (ask 7 u c 0) (ask 8 u (machineOf (state t) .clearance u) 0))

@@ -1,5 +1,5 @@
 -- The label layer of 01: each label request as role requests made on its behalf, its answer and the figure spent.
-use Rattle.bits.specs.Words.{ℕ, _+_, Bool, not, List, [], _∷_, eqb, length, if_then_else_}
+use Rattle.bits.specs.Words.{ℕ, _+_, Bool, not, List, [], _∷_, eqb, length, if_then_else_, _with_}
 use Rattle.table.specs.Sound.{sound}
 use Rattle.table.specs.Table.{isTable}
 use Rattle.table.specs.Reading.{state}
@@ -21,13 +21,6 @@ RoleGuard = List ℕ → Ask → Outcome (List ℕ)
 unfoldable pub single : RoleGuard → List ℕ → Ask → Plan
 single guard t q = record { answer = guard t q .answer; requests = q ∷ [] }
 
--- code 3; after a yes code 5 for y; then code 4 after a no, or code 5 for 32 + y
-unfoldable pub startPlan : Bool → Bool → ℕ → ℕ → ℕ → Plan
-startPlan started cleared s u y =
-    if not started then record { answer = 0; requests = ask 3 s u 0 ∷ [] } else
-    if not cleared then record { answer = 0; requests = ask 3 s u 0 ∷ ask 5 s y 0 ∷ ask 4 s 0 0 ∷ [] } else
-    record { answer = 1; requests = ask 3 s u 0 ∷ ask 5 s y 0 ∷ ask 5 s (32 + y) 0 ∷ [] }
-
 -- nothing where c is the clearance old already; else assign c and deassign old, and after a no deassign c
 unfoldable pub reclearPlan : ℕ → Bool → ℕ → ℕ → Plan
 reclearPlan old deassigned u c =
@@ -38,11 +31,11 @@ reclearPlan old deassigned u c =
 unfoldable pub saysYes : RoleGuard → List ℕ → Ask → Bool
 saysYes guard t q = eqb (guard t q .answer) 1
 
+-- a start is code 3 with the read role and the write role of its level
 unfoldable pub plan : RoleGuard → List ℕ → Request → Plan
 plan guard t (opening s o x) = single guard t (ask 1 s o x)
 plan guard t (closing s o x) = single guard t (ask 2 s o x)
-plan guard t (starting s u y) =
-    startPlan (saysYes guard t (ask 3 s u 0)) (saysYes guard (guard t (ask 3 s u 0) .state) (ask 5 s y 0)) s u y
+plan guard t (starting s u y) = single guard t (ask 3 s u (0 with y with (32 + y)))
 plan guard t (ending s) = single guard t (ask 4 s 0 0)
 plan guard t (reclearing u c) =
     let old = machineOf (state t) .clearance u in

@@ -5,14 +5,15 @@ use table::layout::ASSIGNED;
 use table::layout::WORDS;
 ghost use mathlib.Core.Path.{_≡_};
 ghost use mathlib.Core.Bool.{true};
-ghost use Prim.Native.Nat.{_-_, _≤_, _<_};
+ghost use Prim.Native.Nat.{_+_, _-_, _≤_, _<_};
 ghost use lib.ListN.{length};
+ghost use Rattle.bits.specs.Words.{_with_};
 ghost use Rattle.table.specs.Reading.{state};
 ghost use Rattle.table.specs.Table.{tableLength};
 ghost use Rattle.roles.specs.Request.{ask};
 ghost use Rattle.roles.specs.Guard.{soundStep};
 ghost use Rattle.roles.specs.Answer.{numberOf};
-ghost use Rattle.machine.specs.Machine.{starting, reclearing, inRange, decode};
+ghost use Rattle.machine.specs.Machine.{reclearing, inRange, decode};
 ghost use Rattle.labels.specs.Guard.{single, saysYes, plan, carryOut, labelStep, imageStep};
 ghost use Rattle.labels.specs.Reply.{Replied};
 
@@ -51,29 +52,13 @@ fn single(t: &mut [u64], code: u64, a: u64, b: u64, c: u64) -> LabelAnswer
     }
 }
 
-// Session s starts for user u at level y: it gets the read role and the write role of its level.
-fn start(t: &mut [u64], s: u64, u: u64, y: u64) -> LabelAnswer
+// The read role and the write role of level y.
+fn level_roles(y: u64) -> u64
     requires { ⌜ y < 32 ⌝ }
-    ensures { λ r. ⌜ Replied r (now (t .exit)) (carryOut soundStep (now (t .entry)) (plan soundStep (now (t .entry)) (starting s u y))) ⌝ }
+    ensures { λ r. ⌜ r ≡ 0 with y with (32 + y) ⌝ }
 {
-    if !is_yes(t, 3, s, u) {
-        return LabelAnswer {
-            answer: Answer::No,
-            spent: 1,
-        };
-    }
-    if !is_yes(t, 5, s, y) {
-        is_yes(t, 4, s, 0);
-        return LabelAnswer {
-            answer: Answer::No,
-            spent: 3, // codes 3, 5 and 4
-        };
-    }
-    is_yes(t, 5, s, 32 + y);
-    LabelAnswer {
-        answer: Answer::Yes,
-        spent: 3, // codes 3, 5 and 5
-    }
+    let level = y as usize;
+    bits::with(bits::with(0, level), 32 + level)
 }
 
 // User u gets the clearance c: the new role before the old one is taken, and taken back where a session needs the old one.
@@ -128,7 +113,7 @@ fn perform(t: &mut [u64], code: u64, a: u64, b: u64, c: u64) -> LabelAnswer
     match code {
         1 => single(t, 1, a, b, c),
         2 => single(t, 2, a, b, c),
-        3 => start(t, a, b, c),
+        3 => single(t, 3, a, b, level_roles(c)),
         4 => single(t, 4, a, 0, 0),
         _ => reclear(t, a, b),
     }

@@ -49,45 +49,45 @@ asks-coded m k code n l h = taking-coded m k n (Asks code) (l, h)
 
 role-coded : (w : Word) (n : ℕ) → Coded RoleMode (roleItem w n)
 unfolding roleItem
-role-coded Roles n = taking-coded RoleMode 0 n (Chooses RoleMode) tt
-role-coded Lattice n = taking-coded RoleMode 0 n (Chooses LatticeMode) tt
-role-coded Above n = taking-coded RoleMode 2 n (Sets Juniors) tt
-role-coded Permit n = taking-coded RoleMode 2 n (Sets Permissions) tt
+role-coded Roles n = taking-coded RoleMode _ n (Chooses RoleMode) tt
+role-coded Lattice n = taking-coded RoleMode _ n (Chooses LatticeMode) tt
+role-coded Above n = taking-coded RoleMode _ n (Sets Juniors) tt
+role-coded Permit n = taking-coded RoleMode _ n (Sets Permissions) tt
 role-coded Clear n = tt
 role-coded Label n = tt
-role-coded Run n = taking-coded RoleMode 0 n Runs tt
-role-coded Open n = asks-coded RoleMode 3 1 n (omega arith) (omega arith)
-role-coded Close n = asks-coded RoleMode 3 2 n (omega arith) (omega arith)
-role-coded Start n = asks-coded RoleMode 2 3 n (omega arith) (omega arith)
-role-coded End n = asks-coded RoleMode 1 4 n (omega arith) (omega arith)
-role-coded Activate n = asks-coded RoleMode 2 5 n (omega arith) (omega arith)
-role-coded Drop n = asks-coded RoleMode 2 6 n (omega arith) (omega arith)
-role-coded Assign n = asks-coded RoleMode 2 7 n (omega arith) (omega arith)
-role-coded Deassign n = asks-coded RoleMode 2 8 n (omega arith) (omega arith)
-role-coded Grant n = asks-coded RoleMode 3 9 n (omega arith) (omega arith)
-role-coded Revoke n = asks-coded RoleMode 3 10 n (omega arith) (omega arith)
+role-coded Run n = taking-coded RoleMode _ n Runs tt
+role-coded Open n = asks-coded RoleMode _ 1 n (omega arith) (omega arith)
+role-coded Close n = asks-coded RoleMode _ 2 n (omega arith) (omega arith)
+role-coded Start n = asks-coded RoleMode _ 3 n (omega arith) (omega arith)
+role-coded End n = asks-coded RoleMode _ 4 n (omega arith) (omega arith)
+role-coded Activate n = asks-coded RoleMode _ 5 n (omega arith) (omega arith)
+role-coded Drop n = asks-coded RoleMode _ 6 n (omega arith) (omega arith)
+role-coded Assign n = asks-coded RoleMode _ 7 n (omega arith) (omega arith)
+role-coded Deassign n = asks-coded RoleMode _ 8 n (omega arith) (omega arith)
+role-coded Grant n = asks-coded RoleMode _ 9 n (omega arith) (omega arith)
+role-coded Revoke n = asks-coded RoleMode _ 10 n (omega arith) (omega arith)
 role-coded Reclear n = tt
 
 lattice-coded : (w : Word) (n : ℕ) → Coded LatticeMode (latticeItem w n)
 unfolding latticeItem
-lattice-coded Roles n = taking-coded LatticeMode 0 n (Chooses RoleMode) tt
-lattice-coded Lattice n = taking-coded LatticeMode 0 n (Chooses LatticeMode) tt
+lattice-coded Roles n = taking-coded LatticeMode _ n (Chooses RoleMode) tt
+lattice-coded Lattice n = taking-coded LatticeMode _ n (Chooses LatticeMode) tt
 lattice-coded Above n = tt
 lattice-coded Permit n = tt
-lattice-coded Clear n = taking-coded LatticeMode 2 n (Sets Clearances) tt
-lattice-coded Label n = taking-coded LatticeMode 2 n (Sets Labels) tt
-lattice-coded Run n = taking-coded LatticeMode 0 n Runs tt
-lattice-coded Open n = asks-coded LatticeMode 3 1 n (omega arith) (omega arith)
-lattice-coded Close n = asks-coded LatticeMode 3 2 n (omega arith) (omega arith)
-lattice-coded Start n = asks-coded LatticeMode 3 3 n (omega arith) (omega arith)
-lattice-coded End n = asks-coded LatticeMode 1 4 n (omega arith) (omega arith)
+lattice-coded Clear n = taking-coded LatticeMode _ n (Sets Clearances) tt
+lattice-coded Label n = taking-coded LatticeMode _ n (Sets Labels) tt
+lattice-coded Run n = taking-coded LatticeMode _ n Runs tt
+lattice-coded Open n = asks-coded LatticeMode _ 1 n (omega arith) (omega arith)
+lattice-coded Close n = asks-coded LatticeMode _ 2 n (omega arith) (omega arith)
+lattice-coded Start n = asks-coded LatticeMode _ 3 n (omega arith) (omega arith)
+lattice-coded End n = asks-coded LatticeMode _ 4 n (omega arith) (omega arith)
 lattice-coded Activate n = tt
 lattice-coded Drop n = tt
 lattice-coded Assign n = tt
 lattice-coded Deassign n = tt
 lattice-coded Grant n = tt
 lattice-coded Revoke n = tt
-lattice-coded Reclear n = asks-coded LatticeMode 2 5 n (omega arith) (omega arith)
+lattice-coded Reclear n = asks-coded LatticeMode _ 5 n (omega arith) (omega arith)
 
 mode-coded : (m : Mode) (w : Word) (n : ℕ) → Coded m (modeItem m w n)
 unfolding modeItem

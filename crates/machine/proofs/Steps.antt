@@ -151,9 +151,7 @@ module _ (m : Machine) where
   act-closing s o x = refl
 
   pub act-starting : (s u y : ℕ)
-      → act m (starting s u y)
-      ≡ decide (isIdle (m .seat s) and dominates (m .clearance u) y) (if isIdle (m .seat s) then 3 else 1) (if isIdle (m .seat s) then 3 else 1)
-      (withSeat m s (at u y)) m
+      → act m (starting s u y) ≡ decide (isIdle (m .seat s) and dominates (m .clearance u) y) 1 1 (withSeat m s (at u y)) m
   unfolding act allowed figure next
   act-starting s u y = refl
 

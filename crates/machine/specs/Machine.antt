@@ -89,7 +89,7 @@ next m (reclearing u c) = withClearance m u c
 unfoldable pub figure : Machine → Request → Bool → ℕ
 figure m (opening s o x) b = 1
 figure m (closing s o x) b = 1
-figure m (starting s u y) b = if isIdle (m .seat s) then 3 else 1
+figure m (starting s u y) b = 1
 figure m (ending s) b = 1
 figure m (reclearing u c) b = if eqb (m .clearance u) c then 0 else (if b then 2 else 3)
 

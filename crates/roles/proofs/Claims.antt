@@ -217,7 +217,7 @@ module _ (S : State) (f : Sound S) (w : Words S) where
   unfolding changed idempotent
   same-state (opens s o x) h i = agree-own-holds S s (λ y l. upd-own (S .holds s) x _ (with-there (S .holds s x) o (w .holds-word s x) i) y)
   same-state (closes s o x) h i = agree-own-holds S s (λ y l. upd-own (S .holds s) x _ (without-absent (S .holds s x) o (w .holds-word s x) (not-true _ i)) y)
-  same-state (starts s u) h i = clash i refl
+  same-state (starts s u roles) h i = clash i refl
   same-state (ends s) h i = clash i refl
   same-state (activates s r) h i = agree-own-active S s (with-there (S .active s) r (w .active-word s) i)
   same-state (drops s r) h i = agree-own-active S s (without-absent (S .active s) r (w .active-word s) (not-true _ i))
@@ -231,7 +231,7 @@ module _ (S : State) (f : Sound S) (w : Words S) where
   unfolding allowed idempotent
   is-allowed (opens s o x) h i = f .openings-effective s x o (h .0) (h .2) (h .1) i
   is-allowed (closes s o x) h i = refl
-  is-allowed (starts s u) h i = clash i refl
+  is-allowed (starts s u roles) h i = clash i refl
   is-allowed (ends s) h i = clash i refl
   is-allowed (activates s r) h i = f .active-authorised s r (h .0) (h .1) i
   is-allowed (drops s r) h i = sound-agree (same-state (drops s r) h i) ∙ sound-intro S f

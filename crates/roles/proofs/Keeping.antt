@@ -2,19 +2,22 @@
 use Prim.Native.Nat.{ℕ, suc, _<_}
 use mathlib.Core.Path.{_≡_, refl, sym, ap, _∙_}
 use mathlib.Core.Bool.{true}
-use Rattle.bits.specs.Words.{upd, has, _with_}
+use native.Mathlib.Omega.{arith}
+use lib.Dec.{eqb}
+use borrow.Author.Tests.{ne-eqb}
+use Rattle.bits.specs.Words.{upd, has, each, _with_}
 use Rattle.bits.specs.Sets.{_without_}
-use Rattle.bits.proofs.Truth.{clash}
-use Rattle.bits.proofs.Word.{has-zero, with-elim, with-old, without-old, without-none}
-use Rattle.bits.proofs.Members.{not-empty}
+use Rattle.bits.proofs.Truth.{clash, and-left, and-right}
+use Rattle.bits.proofs.Word.{with-elim, with-old, without-old, without-none}
+use Rattle.bits.proofs.Members.{not-empty, each-elim}
 use Rattle.table.specs.State.{State}
-use Rattle.table.specs.Authority.{idle, permission, mayActivate, effective}
+use Rattle.table.specs.Authority.{idle, permission, authorised, mayActivate, effective}
 use Rattle.table.specs.Changes.{withAssigned, withGranted, withOwner, withActive, withHolds}
 use Rattle.table.specs.Sound.{Sound}
 use Rattle.table.proofs.Sound.{sound-elim}
 use Rattle.table.proofs.State.{may-activate-idle, may-activate-user}
 use Rattle.table.proofs.Agree.{upd-same, by-upd, grid-same}
-use Rattle.table.proofs.Keeps.{no-roles-none-effective, authorised-more, effective-more, holds-keeps, active-keeps, assigned-keeps, granted-keeps, start-keeps, end-keeps}
+use Rattle.table.proofs.Keeps.{no-roles-none-effective, authorised-same, authorised-more, effective-more, holds-keeps, active-keeps, assigned-keeps, granted-keeps, start-keeps, end-keeps}
 use Rattle.roles.specs.Roles.{Request, opens, closes, starts, ends, activates, drops, assigns, deassigns, grants, revokes, known, allowed, changed}
 use Rattle.roles.specs.Served.{Ranged}
 
@@ -63,17 +66,24 @@ module _ (S : State) (f : Sound S) where
       (λ q hq k. k)
       (f .openings-effective s x o hs hx ho m))
 
-  started : (s u : ℕ) → s < 32 → u < 64 → idle S s ≡ true → Sound (withActive (withOwner S s (suc u)) s 0)
-  started s u hs hu i =
-      active-keeps _ (start-keeps S f s u hs hu i) s 0
-      (λ r hr m. clash m (has-zero r)) (λ z. refl)
+  started : (s u roles : ℕ) → s < 32 → u < 64 → idle S s ≡ true → each roles (authorised S u) ≡ true → Sound (withActive (withOwner S s (suc u)) s roles)
+  started s u roles hs hu i k =
+      active-keeps given (start-keeps S f s u hs hu i) s roles
+      (λ r hr m. may-activate-user given s u r owned ∙ authorised-same given S refl u r refl ∙ each-elim roles (authorised S u) k r hr m)
+      (λ z. clash z (ap (λ (w : ℕ). eqb w 0) owned ∙ ne-eqb (suc u) 0 (λ e. omega arith)))
       (λ x o hx ho m. absurd (not-empty (S .holds s x) o m (f .idle-no-openings s x hs hx i)))
+    where
+      given : State
+      given = withOwner S s (suc u)
+
+      owned : given .owner s ≡ suc u
+      owned = upd-same (S .owner) s (suc u)
 
 pub changed-sound : (S : State) → Sound S → (r : Request) → Ranged r → known S r ≡ true → allowed S r ≡ true → Sound (changed S r)
 unfolding known allowed changed
 changed-sound S f (opens s o x) h k a = open-keeps S f s o x (h .0) (h .1) (h .2) a
 changed-sound S f (closes s o x) h k a = close-keeps S f s o x (h .0) (h .2)
-changed-sound S f (starts s u) h k a = started S f s u (h .0) (h .1) a
+changed-sound S f (starts s u roles) h k a = started S f s u roles (h .0) (h .1) (and-left _ _ a) (and-right (idle S s) _ a)
 changed-sound S f (ends s) h k a = end-keeps S f s
 changed-sound S f (activates s r) h k a = activate-keeps S f s r (h .0) (h .1) a
 changed-sound S f (drops s r) h k a = sound-elim _ a

@@ -1,6 +1,6 @@
 -- What each request that the label layer makes comes to on the table of a sound state, in the terms of that state alone: the
 -- laws by which other crates know the role guard. Assumes nothing.
-use Prim.Native.Nat.{ℕ, suc, _≤_, _<_}
+use Prim.Native.Nat.{ℕ, suc, _^_, _≤_, _<_}
 use mathlib.Core.Path.{_≡_, refl, sym, ap, _∙_}
 use mathlib.Core.Bool.{Bool, true, not}
 use mathlib.Core.List.{List}
@@ -8,11 +8,11 @@ use native.Mathlib.Omega.{arith}
 use native.Mathlib.Nat.{le-of-suc-le-suc}
 use lib.ListN.{getD}
 use borrow.Author.Tests.{le-leb}
-use Rattle.bits.specs.Words.{upd, _with_}
+use Rattle.bits.specs.Words.{_and_, upd, each, _with_}
 use Rattle.bits.specs.Sets.{_without_}
 use Rattle.bits.proofs.Truth.{and-intro}
 use Rattle.table.specs.State.{State}
-use Rattle.table.specs.Authority.{idle, mayActivate, effective}
+use Rattle.table.specs.Authority.{idle, authorised, effective}
 use Rattle.table.specs.Changes.{withAssigned, withOwner, withActive, withHolds}
 use Rattle.table.specs.Sound.{Sound}
 use Rattle.table.specs.Table.{encode}
@@ -64,12 +64,13 @@ module _ (S : State) (f : Sound S) where
       step-encode S f (ask 2 s o x) (is-code _ (omega arith) (omega arith))
       (within-intro _ 2 s o x (le-of-suc-le-suc hs) (le-of-suc-le-suc ho) (le-of-suc-le-suc hx)) refl
 
-  pub start-is : (s u : ℕ) → s < 32 → u < 64
-      → roleStep (encode S) (ask 3 s u 0) ≡ decide (idle S s) 1 1 (encode (withActive (withOwner S s (suc u)) s 0)) (encode S)
+  pub start-is : (s u roles : ℕ) → s < 32 → u < 64 → roles < 2 ^ 64
+      → roleStep (encode S) (ask 3 s u roles)
+      ≡ decide (idle S s and each roles (authorised S u)) 1 1 (encode (withActive (withOwner S s (suc u)) s roles)) (encode S)
   unfolding inRange limits decode known allowed changed
-  start-is s u hs hu =
-      step-encode S f (ask 3 s u 0) (is-code _ (omega arith) (omega arith))
-      (within-intro _ 3 s u 0 (le-of-suc-le-suc hs) (le-of-suc-le-suc hu) (omega arith)) refl
+  start-is s u roles hs hu hr =
+      step-encode S f (ask 3 s u roles) (is-code _ (omega arith) (omega arith))
+      (within-intro _ 3 s u roles (le-of-suc-le-suc hs) (le-of-suc-le-suc hu) (le-of-suc-le-suc hr)) refl
 
   pub end-is : (s : ℕ) → s < 32
       → roleStep (encode S) (ask 4 s 0 0)
@@ -78,13 +79,6 @@ module _ (S : State) (f : Sound S) where
   end-is s hs =
       step-encode S f (ask 4 s 0 0) (is-code _ (omega arith) (omega arith))
       (within-intro _ 4 s 0 0 (le-of-suc-le-suc hs) (omega arith) (omega arith)) refl
-
-  pub activate-is : (s r : ℕ) → s < 32 → r < 64
-      → roleStep (encode S) (ask 5 s r 0) ≡ decide (mayActivate S s r) 1 1 (encode (withActive S s (S .active s with r))) (encode S)
-  unfolding inRange limits decode known allowed changed
-  activate-is s r hs hr =
-      step-encode S f (ask 5 s r 0) (is-code _ (omega arith) (omega arith))
-      (within-intro _ 5 s r 0 (le-of-suc-le-suc hs) (le-of-suc-le-suc hr) (omega arith)) refl
 
   pub assign-is : (u r : ℕ) → u < 64 → r < 64
       → roleStep (encode S) (ask 7 u r 0) ≡ decide true 1 1 (encode (withAssigned S u (S .assigned u with r))) (encode S)

@@ -23,7 +23,7 @@ pub allowed-same : (S : State) → Sound S → (r : Request) → Ranged r → al
 unfolding allowed allowedSound changed
 allowed-same S f (opens s o x) h = refl
 allowed-same S f (closes s o x) h = refl
-allowed-same S f (starts s u) h = refl
+allowed-same S f (starts s u roles) h = refl
 allowed-same S f (ends s) h = refl
 allowed-same S f (activates s r) h = true-and _ (le-leb (S .owner s) 64 (f .owners-known s (h .0)))
 allowed-same S f (drops s r) h = sym (drop-sound S f s r (h .0))

@@ -4,15 +4,16 @@ use mathlib.Core.Path.{_≡_, refl, ap, ap₂, _∙_}
 use mathlib.Core.Bool.{Bool, true, not}
 use mathlib.Core.List.{List}
 use native.Mathlib.Omega.{arith}
-use Rattle.bits.specs.Words.{_with_}
+use Rattle.bits.specs.Words.{_and_, _with_}
 use Rattle.bits.specs.Sets.{_without_}
 use Rattle.bits.proofs.Truth.{by-truth}
+use Rattle.bits.proofs.Members.{each-cong}
 use Rattle.table.specs.State.{State}
 use Rattle.table.specs.Sound.{sound, Sound}
 use Rattle.table.specs.Table.{isTable, encode}
 use Rattle.table.specs.Reading.{state}
 use Rattle.table.proofs.Sound.{sound-elim, sound-intro}
-use Rattle.table.proofs.Agree.{Agree, agree-sym, idle-agree, permission-agree, may-activate-agree, effective-agree, sound-agree, agree-sound, upd-agree, agree-with-holds, agree-with-active, agree-with-owner, agree-with-assigned, agree-with-granted}
+use Rattle.table.proofs.Agree.{Agree, agree-sym, idle-agree, permission-agree, authorised-agree, may-activate-agree, effective-agree, sound-agree, agree-sound, upd-agree, agree-with-holds, agree-with-active, agree-with-owner, agree-with-assigned, agree-with-granted}
 use Rattle.table.proofs.Encode.{state-encode, encode-cong}
 use Rattle.sound.specs.Answers.{isSound}
 use Rattle.sound.proofs.Answers.{sound-state, sound-table, shown-sound}
@@ -81,7 +82,7 @@ module _ {S S′ : State} (a : Agree S S′) where
   unfolding changed
   changed-agree (opens s o x) h = agree-with-holds a s (λ y l. upd-agree (S .holds s) (S′ .holds s) x y (ap (λ (w : ℕ). w with o) (a .holds s x (h .0) (h .2))) (a .holds s y (h .0) l))
   changed-agree (closes s o x) h = agree-with-holds a s (λ y l. upd-agree (S .holds s) (S′ .holds s) x y (ap (λ (w : ℕ). w without o) (a .holds s x (h .0) (h .2))) (a .holds s y (h .0) l))
-  changed-agree (starts s u) h = agree-with-active (agree-with-owner a s refl) s refl
+  changed-agree (starts s u roles) h = agree-with-active (agree-with-owner a s refl) s refl
   changed-agree (ends s) h = agree-with-holds (agree-with-active (agree-with-owner a s refl) s refl) s (λ x l. refl)
   changed-agree (activates s r) h = agree-with-active a s (ap (λ (w : ℕ). w with r) (a .active s (h .0)))
   changed-agree (drops s r) h = agree-with-active a s (ap (λ (w : ℕ). w without r) (a .active s (h .0)))
@@ -94,7 +95,7 @@ module _ {S S′ : State} (a : Agree S S′) where
   unfolding allowed
   allowed-agree f (opens s o x) h = effective-agree a s x o (h .0) (h .2) (h .1)
   allowed-agree f (closes s o x) h = refl
-  allowed-agree f (starts s u) h = idle-agree a s (h .0)
+  allowed-agree f (starts s u roles) h = ap₂ _and_ (idle-agree a s (h .0)) (each-cong roles (λ r l. authorised-agree a u r (h .1)))
   allowed-agree f (ends s) h = ap not (idle-agree a s h)
   allowed-agree f (activates s r) h = may-activate-agree a s r (h .0) (f .owners-known s (h .0))
   allowed-agree f (drops s r) h = sound-agree (changed-agree (drops s r) h)
@@ -107,7 +108,7 @@ module _ {S S′ : State} (a : Agree S S′) where
   unfolding known
   known-agree (opens s o x) h = refl
   known-agree (closes s o x) h = refl
-  known-agree (starts s u) h = refl
+  known-agree (starts s u roles) h = refl
   known-agree (ends s) h = refl
   known-agree (activates s r) h = refl
   known-agree (drops s r) h = refl

@@ -45,7 +45,7 @@ CloseIsTableOne =
 unfoldable pub idempotent : State → Request → Bool
 idempotent S (opens s o x) = has (S .holds s x) o
 idempotent S (closes s o x) = not (has (S .holds s x) o)
-idempotent S (starts s u) = false
+idempotent S (starts s u roles) = false
 idempotent S (ends s) = false
 idempotent S (activates s r) = has (S .active s) r
 idempotent S (drops s r) = not (has (S .active s) r)

@@ -1,7 +1,7 @@
 -- The role guard on a lent table: refusals in 01's order, then yes or no.
-use Rattle.bits.specs.Words.{ℕ, Bool, true, not, List, leb, _and_, if_then_else_}
+use Rattle.bits.specs.Words.{ℕ, Bool, true, not, List, leb, _and_, if_then_else_, each}
 use Rattle.table.specs.State.{State}
-use Rattle.table.specs.Authority.{idle, mayActivate, effective}
+use Rattle.table.specs.Authority.{idle, authorised, mayActivate, effective}
 use Rattle.table.specs.Sound.{sound}
 use Rattle.table.specs.Table.{isTable, encode}
 use Rattle.table.specs.Reading.{state}
@@ -35,7 +35,7 @@ roleStep t q =
 unfoldable pub allowedSound : State → Request → Bool
 allowedSound S (opens s o x) = effective S s x o
 allowedSound S (closes s o x) = true
-allowedSound S (starts s u) = idle S s
+allowedSound S (starts s u roles) = idle S s and each roles (authorised S u)
 allowedSound S (ends s) = not (idle S s)
 allowedSound S (activates s r) = leb (S .owner s) 64 and mayActivate S s r
 allowedSound S (drops s r) = openingsFit (changed S (drops s r)) s

@@ -1,15 +1,15 @@
 -- The ten role requests: the table of 01 ("Role requests"), a line for each.
-use Rattle.bits.specs.Words.{ℕ, suc, _-_, Bool, true, not, List, [], _∷_, leb, getD, _and_, upd, _with_}
+use Rattle.bits.specs.Words.{ℕ, suc, _-_, Bool, true, not, List, [], _∷_, leb, getD, _and_, upd, each, _with_}
 use Rattle.bits.specs.Sets.{_without_}
 use Rattle.table.specs.State.{State}
-use Rattle.table.specs.Authority.{permission, idle, mayActivate, effective}
+use Rattle.table.specs.Authority.{permission, idle, authorised, mayActivate, effective}
 use Rattle.table.specs.Changes.{withAssigned, withGranted, withOwner, withActive, withHolds}
 use Rattle.table.specs.Sound.{sound}
 use Rattle.roles.specs.Request.{Ask, within}
 
 pub data Request : Type 0 where
   opens closes : (s o x : ℕ) → Request
-  starts : (s u : ℕ) → Request
+  starts : (s u roles : ℕ) → Request
   ends : (s : ℕ) → Request
   activates drops : (s r : ℕ) → Request
   assigns deassigns : (u r : ℕ) → Request
@@ -26,7 +26,7 @@ unfoldable pub limits : List (List ℕ)
 limits =
     (31 ∷ 63 ∷ 7 ∷ [])
     ∷ (31 ∷ 63 ∷ 7 ∷ [])
-    ∷ (31 ∷ 63 ∷ 0 ∷ [])
+    ∷ (31 ∷ 63 ∷ 18446744073709551615 ∷ [])
     ∷ (31 ∷ 0 ∷ 0 ∷ [])
     ∷ (31 ∷ 63 ∷ 0 ∷ [])
     ∷ (31 ∷ 63 ∷ 0 ∷ [])
@@ -45,7 +45,7 @@ decode q =
     getD
     (opens (q .a) (q .b) (q .c)
     ∷ closes (q .a) (q .b) (q .c)
-    ∷ starts (q .a) (q .b)
+    ∷ starts (q .a) (q .b) (q .c)
     ∷ ends (q .a)
     ∷ activates (q .a) (q .b)
     ∷ drops (q .a) (q .b)
@@ -63,7 +63,7 @@ decode q =
 unfoldable pub changed : State → Request → State
 changed S (opens s o x) = withHolds S s (upd (S .holds s) x (S .holds s x with o))
 changed S (closes s o x) = withHolds S s (upd (S .holds s) x (S .holds s x without o))
-changed S (starts s u) = withActive (withOwner S s (suc u)) s 0
+changed S (starts s u roles) = withActive (withOwner S s (suc u)) s roles
 changed S (ends s) = withHolds (withActive (withOwner S s 0) s 0) s (λ x. 0)
 changed S (activates s r) = withActive S s (S .active s with r)
 changed S (drops s r) = withActive S s (S .active s without r)
@@ -76,7 +76,7 @@ changed S (revokes r x o) = withGranted S x o (S .granted x o without r)
 unfoldable pub allowed : State → Request → Bool
 allowed S (opens s o x) = effective S s x o
 allowed S (closes s o x) = true
-allowed S (starts s u) = idle S s
+allowed S (starts s u roles) = idle S s and each roles (authorised S u)
 allowed S (ends s) = not (idle S s)
 allowed S (activates s r) = mayActivate S s r
 allowed S (drops s r) = sound (changed S (drops s r))
@@ -89,7 +89,7 @@ allowed S (revokes r x o) = sound (changed S (revokes r x o))
 unfoldable pub known : State → Request → Bool
 known S (opens s o x) = true
 known S (closes s o x) = true
-known S (starts s u) = true
+known S (starts s u roles) = true
 known S (ends s) = true
 known S (activates s r) = true
 known S (drops s r) = true

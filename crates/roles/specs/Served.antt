@@ -12,7 +12,7 @@ use Rattle.roles.specs.Guard.{allowedSound}
 abbrev pub Ranged : Request → Type 0
 Ranged (opens s o x) = (s < 32) × (o < 64) × (x < 8)
 Ranged (closes s o x) = (s < 32) × (o < 64) × (x < 8)
-Ranged (starts s u) = (s < 32) × (u < 64)
+Ranged (starts s u roles) = (s < 32) × (u < 64)
 Ranged (ends s) = s < 32
 Ranged (activates s r) = (s < 32) × (r < 64)
 Ranged (drops s r) = (s < 32) × (r < 64)

@@ -88,16 +88,19 @@ fn close(t: &mut [u64], s: usize, o: usize, x: usize) -> bool
     true
 }
 
-// The idle session s is given to user u, without roles.
-fn start(t: &mut [u64], s: usize, u: usize) -> bool
-    requires { ⌜ Fit (now t) (starts s u) ⌝ }
-    ensures { λ r. ⌜ Served (now (t .entry)) (now (t .exit)) r (starts s u) ⌝ }
+// The idle session s is given to user u with these roles active, where all of them are authorised for u.
+fn start(t: &mut [u64], s: usize, u: usize, roles: u64) -> bool
+    requires { ⌜ Fit (now t) (starts s u roles) ⌝ }
+    ensures { λ r. ⌜ Served (now (t .entry)) (now (t .exit)) r (starts s u roles) ⌝ }
 {
     if t[OWNER + s] != 0 {
         return false;
     }
+    if !bits::subset(roles, table::authorised_roles(t, u)) {
+        return false;
+    }
     t[OWNER + s] = u as u64 + 1;
-    t[ACTIVE + s] = 0;
+    t[ACTIVE + s] = roles;
     true
 }
 
@@ -206,7 +209,7 @@ fn revoke(t: &mut [u64], r: usize, x: usize, o: usize) -> bool
 const LIMITS: [[u64; 3]; 10] = [
     [31, 63, 7],
     [31, 63, 7],
-    [31, 63, 0],
+    [31, 63, 18446744073709551615],
     [31, 0, 0],
     [31, 63, 0],
     [31, 63, 0],
@@ -257,7 +260,7 @@ fn perform(t: &mut [u64], code: u64, a: usize, b: usize, c: usize) -> bool
     match code {
         1 => open(t, a, b, c),
         2 => close(t, a, b, c),
-        3 => start(t, a, b),
+        3 => start(t, a, b, c as u64),
         4 => end(t, a),
         5 => activate(t, a, b),
         6 => drop(t, a, b),

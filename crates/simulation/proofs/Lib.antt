@@ -2,7 +2,6 @@
 pub mod Deciding
 pub mod Changing
 pub mod Single
-pub mod Starting
 pub mod Reclearing
 pub mod Simulation
 pub mod Unchanged

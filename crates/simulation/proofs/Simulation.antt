@@ -29,8 +29,7 @@ use Rattle.labels.specs.Guard.{labelStep, imageStep}
 use Rattle.labels.proofs.Claims.{served-same, kept-sound}
 use Rattle.labels.proofs.Refusing.{translated-code, translated-argument, translated-plan, label-step-image}
 use Rattle.simulation.proofs.Deciding.{pictured, picture-refuse}
-use Rattle.simulation.proofs.Single.{Simulated, open-same, close-same, end-same}
-use Rattle.simulation.proofs.Starting.{start-same}
+use Rattle.simulation.proofs.Single.{Simulated, open-same, close-same, start-same, end-same}
 use Rattle.simulation.proofs.Reclearing.{reclear-all-same}
 
 -- the seat of a session after one seat was changed

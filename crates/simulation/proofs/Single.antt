@@ -1,12 +1,13 @@
--- Label requests of one role request, open, close and end, on the image of a safe machine state. Assumes nothing.
+-- Label requests of one role request, all but reclear, on the image of a safe machine state. Assumes nothing.
 use Prim.Native.Nat.{ℕ, _<_}
 use mathlib.Core.Path.{_≡_, refl, sym, ap, ap₂, _∙_}
 use mathlib.Core.Bool.{Bool, true, false, not}
 use mathlib.Core.List.{List}
 use native.Mathlib.Omega.{arith}
 use lib.Dec.{ltb}
+use Rattle.bits.specs.Words.{_and_}
 use Rattle.bits.proofs.Truth.{and-false}
-use Rattle.bits.proofs.Word.{pack-none}
+use Rattle.bits.proofs.Word.{pack-none, with-lt}
 use Rattle.table.specs.State.{State}
 use Rattle.table.specs.Changes.{withOwner, withActive, withHolds}
 use Rattle.table.specs.Sound.{Sound}
@@ -15,13 +16,14 @@ use Rattle.table.proofs.Agree.{Agree, agree-trans, agree-with-holds}
 use Rattle.table.proofs.Encode.{encode-cong}
 use Rattle.roles.specs.Request.{decide}
 use Rattle.roles.specs.Guard.{roleStep}
-use Rattle.roles.proofs.Requests.{open-is, close-is, end-is}
+use Rattle.roles.proofs.Requests.{open-is, close-is, start-is, end-is}
 use Rattle.machine.specs.Machine as machine
-use Rattle.machine.specs.Machine.{Machine, withSeat, withOpenings, Request, opening, closing, ending, act}
-use Rattle.machine.proofs.Steps.{act-opening, act-closing, act-ending}
+use Rattle.machine.specs.Machine.{Machine, at, withSeat, withOpenings, Request, opening, closing, starting, ending, act}
+use Rattle.machine.proofs.Steps.{act-opening, act-closing, act-starting, act-ending}
 use Rattle.image.specs.Image.{seatRoles, seatOwner, shown, image}
 use Rattle.image.specs.Claims.{Ranged, Safe}
-use Rattle.image.proofs.Shown.{safe-sound, effective-shown, idle-shown}
+use Rattle.image.proofs.Roles.{authorised-seat}
+use Rattle.image.proofs.Shown.{safe-sound, shown-juniors, assigned-is, effective-shown, idle-shown}
 use Rattle.labels.specs.Guard.{plan, carryOut}
 use Rattle.simulation.proofs.Deciding.{single-decided, pictured, picture-decide}
 use Rattle.simulation.proofs.Changing.{seat-agrees, openings-agree, opened-agrees, closed-agrees}
@@ -60,6 +62,15 @@ module _ (m : Machine) (g : Ranged m) (f : Safe m) where
       single-decided _ _ _ _ _ (close-is S sound s o x hs ho (omega arith))
       ∙ ap (λ (t : List ℕ). decide true 1 1 t (encode S)) (encode-cong (closed-agrees m s o x ho hx))
       ∙ sym (decided m _ 1 1 _ (closing s o x) (act-closing m s o x))
+
+  pub start-same : (s u y : ℕ) → s < 32 → u < 64 → y < 32 → Simulated m (starting s u y)
+  unfolding plan seatOwner seatRoles
+  start-same s u y hs hu hy =
+      single-decided _ _ _ _ _ (start-is S sound s u (seatRoles (at u y)) hs hu (with-lt _ _))
+      ∙ ap₂ (λ (b : Bool) (t : List ℕ). decide b 1 1 t (encode S))
+      (ap₂ _and_ (idle-shown m s) (authorised-seat S (shown-juniors m) u (m .clearance u) (g .clearances u hu) (assigned-is m u) u y hy))
+      (encode-cong (seat-agrees m s (at u y)))
+      ∙ sym (decided m _ 1 1 _ (starting s u y) (act-starting m s u y))
 
   -- the image of an ended session
   ended : (s : ℕ)

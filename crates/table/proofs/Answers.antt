@@ -6,11 +6,11 @@ use mathlib.Core.List.{List, [], _∷_}
 use lib.Dec.{leb, ltb}
 use lib.ListN.{length, getD}
 use borrow.Author.Tests.{leb-true, le-leb, lt-leb, ltb-true, lt-ltb}
-use Rattle.bits.specs.Words.{_and_, if_then_else_, has, pack}
+use Rattle.bits.specs.Words.{_and_, if_then_else_, has, each, subset, pack}
 use Rattle.bits.specs.Sets.{overlap}
 use Rattle.bits.proofs.Truth.{clash, is-false, and-intro, and-left, and-right, true-and, false-and, and-false, if-true, if-false}
 use Rattle.bits.proofs.Word.{has-zero, pack-cong, pack-none}
-use Rattle.bits.proofs.Members.{overlap-elim}
+use Rattle.bits.proofs.Members.{subset-pack, overlap-elim}
 use Rattle.table.specs.State.{State}
 use Rattle.table.specs.Authority.{permission, covers, authorised, mayActivate, effective}
 use Rattle.table.specs.Reading.{state}
@@ -49,6 +49,12 @@ module _ (t : List ℕ) where
   pub authorised-roles-none : (u : ℕ) → isTable t and ltb u 64 ≡ false → 0 ≡ authorisedRoles t u
   unfolding authorisedRoles
   authorised-roles-none u e = sym (if-false _ _ e)
+
+  -- the roles are among those of user u: each of them is authorised
+  pub all-authorised : (u roles w : ℕ) → length t ≡ tableLength → u < 64 → w ≡ authorisedRoles t u
+      → subset roles w ≡ each roles (authorised (state t) u)
+  all-authorised u roles w e h k =
+      ap (subset roles) (k ∙ sym (authorised-roles-are u (and-intro (is-table t e) (lt-ltb u 64 h)))) ∙ subset-pack roles (authorised (state t) u)
 
   pub effective-permissions-are : (s : ℕ) → isTable t and ltb s 32 ≡ true
       → tabulate 8 (λ x. pack 64 (effective (state t) s x)) ≡ effectivePermissions t s

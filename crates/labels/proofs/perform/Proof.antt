@@ -1,13 +1,17 @@
 -- `perform` meets its contract: each code is that of its request. Assumes nothing.
 use borrow.Author.Needs.{needs}
+use Prim.Native.Nat.{ℕ}
+use mathlib.Core.Path.{sym, ap}
+use Rattle.roles.specs.Request.{ask}
+use Rattle.roles.specs.Guard.{soundStep}
 use Rattle.machine.proofs.Steps.{opening-code, closing-code, starting-code, ending-code, reclearing-code, start-level, reclear-user, fifth}
-use Rattle.labels.specs.Guard.{plan}
-use Rattle.labels.proofs.Replying.{planned-as}
+use Rattle.labels.specs.Guard.{single, plan, carryOut}
+use Rattle.labels.proofs.Replying.{replied-as, planned-as}
 use Rattle.labels.proofs.perform.Statement.{statement}
 use Rattle.labels.proofs.perform.Tie as tie
 
-start-requires : tie.Need-start-requires
-start-requires c κs =
+level-roles-requires : tie.Need-level-roles-requires
+level-roles-requires c κs =
     let a = c .before .before .before .args in
     let p = c .before .before .before .pre in
     start-level (a .code) (a .a) (a .b) (a .c) (p .1) (p .2) (p .3) (c .before .match .keys3)
@@ -36,16 +40,19 @@ returns-2 c =
 returns-3 : tie.Need-returns-3
 unfolding plan
 returns-3 c =
-    let arm = c .before .before .before .before in
+    let made = c .before .before .before in
+    let arm = made .before .before in
     let a = arm .before .before .args in
-    planned-as (a .t .now) (starting-code (a .a) (a .b) (a .c) (arm .match .keys3)) (c .before .before .start .ensures)
+    planned-as (a .t .now) (starting-code (a .a) (a .b) (a .c) (arm .match .keys3))
+    (replied-as (ap (λ (w : ℕ). carryOut soundStep (a .t .now) (single soundStep (a .t .now) (ask 3 (a .a) (a .b) w))) (sym (made .level-roles .ensures)))
+    (c .before .before .single3 .ensures))
 
 returns-4 : tie.Need-returns-4
 unfolding plan
 returns-4 c =
     let arm = c .before .before .before .before in
     let a = arm .before .before .args in
-    planned-as (a .t .now) (ending-code (a .a) (a .b) (a .c) (arm .match .keys4)) (c .before .before .single3 .ensures)
+    planned-as (a .t .now) (ending-code (a .a) (a .b) (a .c) (arm .match .keys4)) (c .before .before .single4 .ensures)
 
 returns-5 : tie.Need-returns-5
 unfolding plan
@@ -63,7 +70,8 @@ perform-spec =
     (tie.spec
     (λ c κs. search needs)
     (λ c κs. search needs)
-    start-requires
+    level-roles-requires
+    (λ c κs. search needs)
     (λ c κs. search needs)
     reclear-requires
     (λ c. search needs)

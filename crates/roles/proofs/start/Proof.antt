@@ -6,7 +6,9 @@ use native.Mathlib.Numerals.{add-one}
 use native.Mathlib.Omega.{arith}
 use lib.ListN.{set, length-set}
 use borrow.Author.Tests.{eq-eqb, ne-eqb}
+use Rattle.bits.proofs.Truth.{confirmed, refuted, and-intro, false-and, and-false}
 use Rattle.table.specs.Reading.{ownerAt, state}
+use Rattle.table.proofs.Answers.{all-authorised}
 use Rattle.table.proofs.Encode.{encode-state, write-owner, write-active}
 use Rattle.roles.specs.Roles.{changed}
 use Rattle.roles.specs.Guard.{allowedSound}
@@ -16,19 +18,34 @@ use Rattle.roles.proofs.start.Tie as tie
 
 returns : tie.Need-returns
 unfolding allowedSound
-returns c = serve-no (ne-eqb _ 0 (c .if1 .taken)) refl
+returns c = serve-no (false-and _ (ne-eqb _ 0 (c .if1 .taken))) refl
 
 returns-2 : tie.Need-returns-2
-unfolding allowedSound changed
+unfolding allowedSound
 returns-2 c =
-    let start = c .before .before in
+    let found = c .before .before in
+    let start = found .before .before .before .before .before in
     let a = start .args in
     let p = start .pre in
-    serve-yes (eq-eqb _ 0 (c .if1 .left))
+    serve-no
+    (and-false _ (refuted (c .before .subset .ensures ∙ all-authorised (a .t .now) (a .u) (a .roles) _ (p .whole) (p .ranged .1) (found .authorised-roles .ensures)) (c .if2 .taken)))
+    refl
+
+returns-3 : tie.Need-returns-3
+unfolding allowedSound changed
+returns-3 c =
+    let found = c .before .before in
+    let idle = found .before .before in
+    let start = idle .before .before .before in
+    let a = start .args in
+    let p = start .pre in
+    serve-yes
+    (and-intro (eq-eqb _ 0 (idle .if1 .left))
+    (confirmed (c .before .subset .ensures ∙ all-authorised (a .t .now) (a .u) (a .roles) _ (p .whole) (p .ranged .1) (found .authorised-roles .ensures)) (c .if2 .left)))
     (write-active _
     (ap (λ (w : ℕ). set (a .t .now) (ownerAt (a .s)) w) (add-one (a .u))
     ∙ write-owner (state (a .t .now)) (encode-state (a .t .now) (p .whole)) (a .s) _ (p .ranged .0))
-    (a .s) 0 (p .ranged .0))
+    (a .s) _ (p .ranged .0))
 
 pub start-spec : {M : Type 1} → statement M
 start-spec =
@@ -38,6 +55,10 @@ start-spec =
     (λ c. search needs)
     (λ c. search needs)
     returns
+    (λ c κs. search needs)
+    (λ c κs. search needs)
+    (λ c. search needs)
+    returns-2
     (λ c. search needs)
     (λ c. search needs)
     (λ c. search needs)
@@ -46,4 +67,4 @@ start-spec =
     (λ c. search needs)
     (λ c. simp length-set (omega arith))
     (λ c. search needs)
-    returns-2)
+    returns-3)
