@@ -81,7 +81,8 @@ impl Machine {
             }
             3 => {
                 let (s, u, y) = (below(a, SESSIONS)?, below(b, USERS)?, below(c, LABELS)?);
-                Ok(self.start(s, u, Label(y)))
+                let figure = turn!("wrong-start-spends-three", 1, if self.sessions.contains_key(&s) { 1 } else { 3 });
+                Ok((self.start(s, u, Label(y)), figure))
             }
             4 => {
                 let s = below(a, SESSIONS)?;
@@ -112,15 +113,13 @@ impl Machine {
         yes
     }
 
-    fn start(&mut self, s: Session, u: User, y: Label) -> (bool, u64) {
-        if self.sessions.contains_key(&s) {
-            return (false, 1);
-        }
-        let yes = self.clearances.get(&u).is_some_and(|clearance| clearance.dominates(y));
+    fn start(&mut self, s: Session, u: User, y: Label) -> bool {
+        let cleared = self.clearances.get(&u).is_some_and(|clearance| clearance.dominates(y));
+        let yes = cleared && !self.sessions.contains_key(&s);
         if yes {
             self.sessions.insert(s, (u, y));
         }
-        (yes, 3)
+        yes
     }
 
     fn end(&mut self, s: Session) -> bool {
@@ -173,7 +172,8 @@ impl Machine {
         }
         for (s, (u, level)) in &self.sessions {
             state.users.insert(*s, *u);
-            state.active.extend([(*s, level.read_role()), (*s, level.write_role())]);
+            let roles = turn!("wrong-start-reads-only", [level.read_role(), level.write_role()], [level.read_role()]);
+            state.active.extend(roles.map(|r| (*s, r)));
         }
         state
     }

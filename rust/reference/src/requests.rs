@@ -1,6 +1,7 @@
 //! The ten role requests.
 
 use crate::state::{Mode, Object, Role, Session, State, User, MODES, OBJECTS, ROLES, SESSIONS, USERS};
+use crate::table::members;
 use crate::turns::turn;
 use crate::Answer;
 
@@ -9,7 +10,8 @@ use crate::Answer;
 enum Request {
     Open(Session, Object, Mode),
     Close(Session, Object, Mode),
-    Start(Session, User),
+    /// The last is a mask of roles, any number.
+    Start(Session, User, u64),
     End(Session),
     Activate(Session, Role),
     Drop(Session, Role),
@@ -43,7 +45,7 @@ impl Request {
         let request = match code {
             1 => Request::Open(below(a, SESSIONS)?, below(b, OBJECTS)?, below(c, MODES)?),
             2 => Request::Close(below(a, SESSIONS)?, below(b, OBJECTS)?, below(c, MODES)?),
-            3 => Request::Start(below(a, SESSIONS)?, below(b, USERS)?),
+            3 => Request::Start(below(a, SESSIONS)?, below(b, USERS)?, c),
             4 => Request::End(below(a, SESSIONS)?),
             5 => Request::Activate(below(a, SESSIONS)?, below(b, ROLES)?),
             6 => Request::Drop(below(a, SESSIONS)?, below(b, ROLES)?),
@@ -54,7 +56,7 @@ impl Request {
             _ => return Err(15),
         };
         match code {
-            1 | 2 | 9 | 10 => {}
+            1 | 2 | 3 | 9 | 10 => {}
             4 => unlisted(&[b, c])?,
             _ => unlisted(&[c])?,
         }
@@ -83,13 +85,20 @@ impl State {
     fn allows(&self, request: Request, next: &State) -> bool {
         match request {
             Request::Open(s, o, x) => self.effective(s).contains(&(x, o)),
-            Request::Start(s, _) => self.is_idle(s),
+            Request::Start(s, u, mask) => self.is_idle(s) && self.are_authorised(u, mask),
             Request::End(s) => !self.is_idle(s),
             Request::Activate(s, r) => self.authorised_for(s).contains(&r),
             Request::Deassign(..) => turn!("wrong-deassign-direct", next.is_sound(), !self.has_active(request)),
             Request::Drop(..) | Request::Revoke(..) => next.is_sound(),
             Request::Close(..) | Request::Assign(..) | Request::Grant(..) => true,
         }
+    }
+
+    /// Whether every role of the mask is authorised for the user.
+    fn are_authorised(&self, u: User, mask: u64) -> bool {
+        let may = turn!("wrong-start-by-assigned", self.authorised(u), self.assigned_to(u));
+        let mut roles = members(mask).into_iter();
+        turn!("wrong-start-some-role", roles.all(|r| may.contains(&r)), roles.any(|r| may.contains(&r)))
     }
 
     /// Whether the user who is deassigned a role has it active in a session, for the wrong turn.
@@ -109,8 +118,11 @@ impl State {
             Request::Close(s, o, x) => {
                 next.openings.remove(&(s, x, o));
             }
-            Request::Start(s, u) => {
+            Request::Start(s, u, mask) => {
                 next.users.insert(s, u);
+                let roles = members(mask).into_iter();
+                let roles = turn!("wrong-start-with-juniors", roles, roles.flat_map(|r| self.juniors(r)));
+                next.active.extend(roles.map(|r| (s, r)));
             }
             Request::End(s) => {
                 next.users.remove(&s);

@@ -40,7 +40,7 @@ impl State {
     }
 
     /// Role r and all roles that it is senior to.
-    fn juniors(&self, r: Role) -> impl Iterator<Item = Role> + '_ {
+    pub fn juniors(&self, r: Role) -> impl Iterator<Item = Role> + '_ {
         seconds(&self.seniority, r)
     }
 
@@ -49,6 +49,12 @@ impl State {
     fn seniors(&self, r: Role) -> impl Iterator<Item = Role> + '_ {
         let above = self.seniority.iter().filter(move |(_, junior)| *junior == r);
         above.map(|(senior, _)| *senior)
+    }
+
+    /// The roles assigned to a user without their juniors, for the wrong turn.
+    #[cfg(feature = "wrong-start-by-assigned")]
+    pub fn assigned_to(&self, u: User) -> BTreeSet<Role> {
+        seconds(&self.assigned, u).collect()
     }
 
     /// The roles assigned to a user, and all their juniors.
