@@ -1,6 +1,6 @@
 //! The label requests on a table known to be the sound image of a machine state, and the label set-up.
 
-use crate::roles::{check, close, end, open};
+use crate::roles::{check, close, end, open, start};
 use crate::table::{has, Table, ACTIVE, ASSIGNED, GRANTED, OWNER, PERMITTED};
 use crate::{yes_or_no, NO, YES};
 
@@ -64,23 +64,10 @@ pub fn serve(t: &mut Table, code: u64, a: u64, b: u64, c: u64) -> Result<(u64, u
     Ok(match code {
         1 => (yes_or_no(open(t, a, b, c)), 1),
         2 => (yes_or_no(close(t, a, b, c)), 1),
-        3 => start(t, a, b, c),
+        3 => (yes_or_no(start(t, a, b, 1 << c | 1 << (32 + c))), 1),
         4 => (yes_or_no(end(t, a)), 1),
         _ => reclear(t, a, b),
     })
-}
-
-fn start(t: &mut Table, s: usize, u: usize, y: usize) -> (u64, u64) {
-    if t[OWNER + s] != 0 {
-        return (NO, 1);
-    }
-    let clearance = t[ASSIGNED + u].trailing_zeros() as usize;
-    if !has(SENIORITY[clearance], y) {
-        return (NO, 3);
-    }
-    t[OWNER + s] = u as u64 + 1;
-    t[ACTIVE + s] = 1 << y | 1 << (32 + y);
-    (YES, 3)
 }
 
 fn reclear(t: &mut Table, u: usize, c: usize) -> (u64, u64) {

@@ -1,7 +1,8 @@
 //! The ten role requests on a table known to be sound, and the role set-up.
 
 use crate::table::{
-    authorised, covered, has, is_effective, openings_fit, Table, ACTIVE, ASSIGNED, GRANTED, HOLDS, OWNER, PERMITTED,
+    authorised, covered, has, is_effective, is_subset, openings_fit, Table, ACTIVE, ASSIGNED, GRANTED, HOLDS, OWNER,
+    PERMITTED,
 };
 use crate::{yes_or_no, YES};
 
@@ -9,7 +10,7 @@ use crate::{yes_or_no, YES};
 const LARGEST: [[u64; 3]; 10] = [
     [31, 63, 7],
     [31, 63, 7],
-    [31, 63, 0],
+    [31, 63, u64::MAX],
     [31, 0, 0],
     [31, 63, 0],
     [31, 63, 0],
@@ -33,14 +34,14 @@ pub fn check(largest: &[[u64; 3]], code: u64, a: u64, b: u64, c: u64) -> Result<
 /// A role request on a sound table: refusals 15, 16 and 17, then yes or no.
 pub fn serve(t: &mut Table, code: u64, a: u64, b: u64, c: u64) -> Result<u64, u64> {
     check(&LARGEST, code, a, b, c)?;
-    let (a, b, c) = (a as usize, b as usize, c as usize);
+    let (a, b, roles, c) = (a as usize, b as usize, c, c as usize);
     if code >= 9 && !has(t[PERMITTED + b], c) {
         return Err(17);
     }
     Ok(yes_or_no(match code {
         1 => open(t, a, b, c),
         2 => close(t, a, b, c),
-        3 => start(t, a, b),
+        3 => start(t, a, b, roles),
         4 => end(t, a),
         5 => activate(t, a, b),
         6 => drop_role(t, a, b),
@@ -78,12 +79,13 @@ pub fn close(t: &mut Table, s: usize, o: usize, x: usize) -> bool {
     true
 }
 
-fn start(t: &mut Table, s: usize, u: usize) -> bool {
-    let idle = t[OWNER + s] == 0;
-    if idle {
+pub fn start(t: &mut Table, s: usize, u: usize, roles: u64) -> bool {
+    let yes = t[OWNER + s] == 0 && is_subset(roles, authorised(t, u));
+    if yes {
         t[OWNER + s] = u as u64 + 1;
+        t[ACTIVE + s] = roles;
     }
-    idle
+    yes
 }
 
 pub fn end(t: &mut Table, s: usize) -> bool {

@@ -33,7 +33,7 @@ pub fn has(word: u64, member: usize) -> bool {
 }
 
 #[inline]
-fn is_subset(word: u64, of: u64) -> bool {
+pub fn is_subset(word: u64, of: u64) -> bool {
     word & !of == 0
 }
 

@@ -166,7 +166,7 @@ fn roles_word(word: u64) -> Option<(Use, usize)> {
     Some(match word {
         OPEN => (Use::Request(1), 3),
         CLOSE => (Use::Request(2), 3),
-        START => (Use::Request(3), 2),
+        START => (Use::Request(3), 3),
         END => (Use::Request(4), 1),
         ACTIVATE => (Use::Request(5), 2),
         DROP => (Use::Request(6), 2),
