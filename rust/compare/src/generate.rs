@@ -1,7 +1,9 @@
 //! Random cases. A case works on few users, roles, sessions and objects, so that what it does meets.
 
 use crate::case::{Case, Step};
+use crate::guard::PLAIN;
 use crate::random::Random;
+use crate::run::Run;
 use crate::words::{Field, Layer};
 use reference::WORDS;
 
@@ -33,6 +35,7 @@ impl World {
         let (pool, count): (&[u64], u64) = match field {
             Field::User => (&self.users, 64),
             Field::Role => (&self.roles, 64),
+            Field::RoleSet => return random.set(),
             Field::Session => (&self.sessions, 32),
             Field::Object => (&self.objects, 64),
             Field::Mode => (&self.modes, 8),
@@ -84,6 +87,27 @@ impl Layer {
     }
 }
 
+/// The case with the roles of most role starts chosen by what the user is authorised for at that step.
+fn with_roles(random: &mut Random, world: &World, steps: Vec<Step>) -> Case {
+    let mut case = Case(steps);
+    let mut run = Run::default();
+    for step in &mut case.0 {
+        if let Step::Role([3, _, user, roles]) = step {
+            let mut authorised = [0];
+            (PLAIN.authorised_roles)(&run.table, *user, &mut authorised);
+            let some = authorised[0] & random.word();
+            *roles = match random.below(10) {
+                0..=3 => some,
+                4 => authorised[0],
+                5 | 6 => some | 1 << random.one(&world.roles),
+                _ => *roles,
+            };
+        }
+        run.step(&PLAIN, step);
+    }
+    case
+}
+
 /// 0, but seldom not.
 fn unlisted(random: &mut Random) -> u64 {
     match random.below(100) {
@@ -95,7 +119,7 @@ fn unlisted(random: &mut Random) -> u64 {
 
 /// A code by weights, the first that of code 1; seldom one that there is not.
 fn code(random: &mut Random, weights: &[u64]) -> u64 {
-    if random.chance(1) {
+    if random.chance(3) {
         return random.one(&[0, weights.len() as u64 + 1, u64::MAX]);
     }
     let mut left = random.below(weights.iter().sum());
@@ -112,7 +136,7 @@ fn code(random: &mut Random, weights: &[u64]) -> u64 {
 
 /// How often each role request is made on a table in use, and on one that is to come into use.
 const ROLE_WEIGHTS: [u64; 10] = [20, 6, 8, 3, 16, 8, 9, 8, 12, 8];
-const ROLE_GROWTH: [u64; 10] = [4, 0, 4, 0, 6, 0, 4, 0, 6, 0];
+const ROLE_GROWTH: [u64; 10] = [4, 0, 4, 0, 4, 0, 6, 0, 6, 0];
 
 /// The same for label requests.
 const LABEL_WEIGHTS: [u64; 5] = [30, 6, 14, 4, 10];
@@ -209,7 +233,7 @@ pub fn requests(random: &mut Random, layer: Layer) -> Case {
         0 => reading(random, &world),
         _ => layer.any_request(random, &world),
     }));
-    Case(steps)
+    with_roles(random, &world, steps)
 }
 
 /// A table brought into use, and so many requests of its layer.
@@ -217,7 +241,7 @@ pub fn many_requests(random: &mut Random, layer: Layer, count: usize) -> Case {
     let world = World::new(random);
     let mut steps = layer.beginning(random, &world);
     steps.extend((0..count).map(|_| layer.any_request(random, &world)));
-    Case(steps)
+    with_roles(random, &world, steps)
 }
 
 /// A request, a reading or likeness, of either layer.
@@ -264,7 +288,7 @@ fn in_rounds(random: &mut Random, disturb: impl Fn(&mut Random, &World, Layer) -
         steps.push(Step::Keep);
         steps.extend(disturb(random, &world, layer));
     }
-    Case(steps)
+    with_roles(random, &world, steps)
 }
 
 /// A table in use that is damaged, called and restored, several times over. Role requests meet label tables too.
@@ -307,7 +331,7 @@ pub fn damage_everywhere(random: &mut Random, layer: Layer) -> Vec<Case> {
                 steps.extend([damage, any_call(random, &world), Step::Restore]);
             }
         }
-        Case(steps)
+        with_roles(random, &world, steps)
     };
     SECTIONS.windows(2).map(&mut section).collect()
 }

@@ -1,7 +1,7 @@
 //! The words of a transcript in each mode, after the scope's tables: what a word's fields name, the code of a request, and
 //! the answers. What has to be reached (`every_call`, `every_transcript`) is derived from this one page.
 
-use Field::{Label, LabelMode, Mode, Object, Role, Session, User};
+use Field::{Label, LabelMode, Mode, Object, Role, RoleSet, Session, User};
 
 /// The layer that a table is set up for; in a transcript the mode.
 #[derive(Clone, Copy, Debug, PartialEq, Eq)]
@@ -15,6 +15,8 @@ pub enum Layer {
 pub enum Field {
     User,
     Role,
+    /// A mask of roles, any number.
+    RoleSet,
     Session,
     Object,
     Mode,
@@ -54,7 +56,7 @@ const ROLES: [Word; 13] = [
     set_up("run", &[], &[ACCEPTED, CYCLE]),
     request(1, "open", &[Session, Object, Mode], &[NO, YES]),
     request(2, "close", &[Session, Object, Mode], &[YES]),
-    request(3, "start", &[Session, User], &[NO, YES]),
+    request(3, "start", &[Session, User, RoleSet], &[NO, YES]),
     request(4, "end", &[Session], &[NO, YES]),
     request(5, "activate", &[Session, Role], &[NO, YES]),
     request(6, "drop", &[Session, Role], &[NO, YES]),
@@ -70,7 +72,7 @@ const LABELS: [Word; 8] = [
     set_up("run", &[], &[ACCEPTED]),
     request(1, "open", &[Session, Object, LabelMode], &[NO, YES]),
     request(2, "close", &[Session, Object, LabelMode], &[YES]),
-    request(3, "start", &[Session, User, Label], &[NO, [0, 3], [1, 3]]),
+    request(3, "start", &[Session, User, Label], &[NO, YES]),
     request(4, "end", &[Session], &[NO, YES]),
     request(5, "reclear", &[User, Label], &[[0, 3], [1, 0], [1, 2]]),
 ];

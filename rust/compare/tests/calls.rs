@@ -2,8 +2,9 @@
 
 use compare::{
     check, damage_everywhere, damaged, every_call, likeness, requests, set_ups, Case, Guard, Layer, Random, Reached,
-    GUARDS, REFERENCE, WORDS,
+    Run, Step, GUARDS, PLAIN, REFERENCE, WORDS,
 };
+use std::collections::BTreeMap;
 
 const _: () = assert!(!reference::WRONG, "tests are built without a wrong turn");
 
@@ -43,6 +44,56 @@ fn every_call_and_every_answer() {
         }
     });
     require(&reached, &every_call());
+}
+
+/// What a role start came to, by the table before it.
+fn kind_of_start(table: &[u64], session: u64, roles: u64, answer: u64) -> &'static str {
+    match answer {
+        1 if roles == 0 => "yes without roles",
+        1 => "yes with roles",
+        0 if table[648 + session as usize] != 0 => "no, busy",
+        0 => "no, not authorised",
+        _ => "refused",
+    }
+}
+
+/// Counts what the role starts of a case came to, and the openings of sessions whose roles all came from their start.
+fn count_starts(case: &Case, counts: &mut BTreeMap<&'static str, u64>) {
+    let mut run = Run::default();
+    let mut chosen = [false; 32];
+    for step in &case.0 {
+        let before = run.table.clone();
+        let Some(reply) = run.step(&PLAIN, step) else { continue };
+        let answer = reply.answers[0];
+        match step {
+            Step::Role([3, session, _, roles]) => {
+                *counts.entry(kind_of_start(&before, *session, *roles, answer)).or_default() += 1;
+                if *roles == u64::MAX {
+                    *counts.entry("all 64 roles").or_default() += 1;
+                }
+                if answer == 1 {
+                    chosen[*session as usize] = *roles != 0;
+                }
+            }
+            Step::Role([5, session, ..]) if answer == 1 => chosen[*session as usize] = false,
+            Step::Role([1, session, ..]) if answer == 1 && chosen[*session as usize] && run.table != before => {
+                *counts.entry("opened after a start with roles").or_default() += 1;
+            }
+            _ => {}
+        }
+    }
+}
+
+/// The random cases reach every kind of role start, each often.
+#[test]
+fn every_kind_of_start() {
+    let mut random = Random::new(1);
+    let mut counts = BTreeMap::new();
+    for _ in 0..350 {
+        count_starts(&requests(&mut random, Layer::Roles), &mut counts);
+    }
+    println!("{counts:?}");
+    assert!(counts.len() == 7 && counts.values().all(|count| *count >= 50), "{counts:?}");
 }
 
 /// Every word of a table of a layer damaged: refusals 13 and 14 are reached.

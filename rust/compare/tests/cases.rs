@@ -1,5 +1,6 @@
 //! Fixed cases on the second implementation and on every guard that is held to it: the rows of the program `cases`
-//! (`crates/cases`), whose expected output is the list of answers here too, and the points of bench case J.
+//! (`crates/cases`), whose expected output is the list of answers here too, the points of bench case J, and starts with
+//! roles.
 
 use compare::{compare, Case, Guard, Reached, Run, Step, GUARDS, LENT, REFERENCE};
 use reference::{Label, WORDS};
@@ -13,21 +14,21 @@ const EXPECTED: &str = include_str!("../../../crates/cases/stdout");
 const BENCH: &str = "
     roles; above 5 3; above 3 1; permit 0 9; run
     grant 1 0 9; grant 1 1 9
-    start 0 2; start 0 2
+    start 0 2 0; start 0 2 0
     assign 2 3; activate 0 5; activate 0 1; activate 0 3
     open 0 9 0
     drop 0 1; drop 0 3
     deassign 2 3; assign 2 5; deassign 2 3
     revoke 1 0 9; grant 3 0 9; revoke 1 0 9
     close 5 9 0; open 5 9 0
-    start 31 2; start 32 2";
+    start 31 2 0; start 32 2 0";
 
 /// Rows from 200: the state of source 000, section 2.
 const SOURCE: &str = "
     roles; above 1 2; above 3 4; permit 0 1; permit 0 2; permit 1 1; permit 1 2; run
     assign 1 1; assign 2 2; assign 3 3
     grant 1 0 1; grant 2 0 2; grant 3 1 2; grant 4 1 1
-    start 1 1; start 2 1; start 3 2; start 4 3
+    start 1 1 0; start 2 1 0; start 3 2 0; start 4 3 0
     activate 1 1; activate 2 1; activate 4 4";
 
 /// The rows after them: what follows from the source's definitions.
@@ -67,6 +68,10 @@ fn refused() -> Case {
     ])
 }
 
+fn label(number: u64) -> Label {
+    Label::of(number).expect("a label is below 32")
+}
+
 /// The second implementation and every guard that is held to it.
 fn guards() -> impl Iterator<Item = &'static Guard> {
     [&REFERENCE].into_iter().chain(GUARDS)
@@ -81,6 +86,15 @@ fn lines(text: &str) -> impl Iterator<Item = &str> {
 fn case(text: &str) -> Case {
     let tabbed: String = lines(text).map(|line| line.replace(' ', "\t") + "\n").collect();
     tabbed.parse().expect("the lines are a set-up and requests of its mode")
+}
+
+/// A run that has carried out lines, each answered yes.
+fn after(guard: &Guard, text: &str) -> Run {
+    let mut run = Run::default();
+    for step in &case(text).0 {
+        assert_eq!(run.step(guard, step).map(|reply| reply.answers[0]), Some(1), "{step:?} by the {}", guard.name);
+    }
+    run
 }
 
 /// Answer and spent of each call of a case. Whatever is not answered yes leaves every word.
@@ -111,7 +125,6 @@ fn rows_of_the_program_cases() {
     let source = [SOURCE, DERIVED].join("\n");
     let played = [(100, case(BENCH)), (200, case(&source)), (300, case(LISTING)), (400, case(CONFUSED))];
     // no call compares labels: these rows are the second implementation's alone
-    let label = |number| Label::of(number).expect("a label is below 32");
     let compared = PAIRS.map(|(a, b)| [u64::from(label(a).dominates(label(b))), 0]);
     for guard in guards() {
         let mut rows: Vec<String> = Vec::new();
@@ -135,10 +148,7 @@ fn rows_of_the_program_cases() {
 #[test]
 fn sets_of_the_source() {
     for guard in guards() {
-        let mut run = Run::default();
-        for step in &case(SOURCE).0 {
-            assert_eq!(run.step(guard, step).map(|reply| reply.answers), Some(vec![1]), "{step:?}");
-        }
+        let mut run = after(guard, SOURCE);
         let mut read = |step| run.step(guard, &step).map(|reply| (reply.answers, reply.words));
         for (user, roles) in [(1, 6), (2, 4), (3, 24), (4, 0)] {
             assert_eq!(read(Step::Authorised(user)), Some((vec![1], vec![roles])), "user {user}, {}", guard.name);
@@ -150,7 +160,7 @@ fn sets_of_the_source() {
     }
 }
 
-/// Plays lines on every guard; a call stands with its answer, as `start 31 0: 1`.
+/// Plays lines on every guard; a call stands with its answer, as `end 31: 1`.
 fn expect(text: &str) {
     let asked = lines(text).map(|line| line.split_once(": ").map_or(line, |(asked, _)| asked));
     let case = case(&asked.collect::<Vec<&str>>().join("\n"));
@@ -167,7 +177,7 @@ fn expect(text: &str) {
 fn case_j_session_32() {
     expect(
         "roles; permit 0 0; run
-         start 31 0: 1; start 32 0: 16
+         start 31 0 0: 1; start 32 0 0: 16
          activate 31 0: 0; activate 32 0: 16
          open 31 0 0: 0; open 32 0 0: 16
          drop 31 0: 1; drop 32 0: 16
@@ -220,10 +230,7 @@ fn calls() -> [(Step, Vec<u64>, Vec<u64>); 7] {
 fn case_j_other_lengths() {
     for guard in guards() {
         for words in [0, WORDS - 1, WORDS, WORDS + 1] {
-            let mut run = Run::default();
-            for step in case("lattice; clear 5 31; run; start 3 5 9").0 {
-                assert_eq!(run.step(guard, &step).map(|reply| reply.answers[0]), Some(1));
-            }
+            let mut run = after(guard, "lattice; clear 5 31; run; start 3 5 9");
             run.step(guard, &Step::Keep);
             run.step(guard, &Step::Length(words));
             for (step, whole, other) in calls() {
@@ -233,6 +240,113 @@ fn case_j_other_lengths() {
                 assert_eq!(reply.answers, expected, "{step:?} on {words} words by the {}", guard.name);
                 let kept = run.table == before && reply.words.iter().all(|word| *word == LENT);
                 assert!(kept || words == WORDS, "{step:?} on {words} words is refused and writes");
+            }
+        }
+    }
+}
+
+/// Makes a role start and holds the answer and every word to what is expected: yes writes the session's user and roles and
+/// nothing else, and all else leaves the table.
+fn start(run: &mut Run, guard: &Guard, [session, user, roles]: [u64; 3], answer: u64) {
+    let mut expected = run.table.clone();
+    if answer == 1 {
+        expected[648 + session as usize] = user + 1;
+        expected[680 + session as usize] = roles;
+    }
+    let reply = run.step(guard, &Step::Role([3, session, user, roles]));
+    let asked = format!("start {session} {user} {roles} by the {}", guard.name);
+    assert_eq!(reply.map(|reply| reply.answers), Some(vec![answer]), "{asked}");
+    assert!(run.table == expected, "{asked}");
+}
+
+/// Role 5 above 3, 3 above 1; user 2 is assigned role 3, which reads column 9 through role 1.
+const ABOVE: &str = "roles; above 5 3; above 3 1; permit 0 9; run; grant 1 0 9; assign 2 3";
+
+#[test]
+fn starts_with_roles() {
+    for guard in guards() {
+        let mut run = after(guard, ABOVE);
+        for (arguments, answer) in [
+            ([0, 2, 1 << 3 | 1 << 1], 1), // authorised is asked, not assigned
+            ([1, 2, 1 << 5 | 1 << 3], 0), // all of them or none
+            ([1, 2, 1 << 5], 0),
+            ([1, 3, 1 << 1], 0),
+            ([1, 2, u64::MAX], 0), // in range
+            ([32, 2, u64::MAX], 16),
+            ([1, 64, u64::MAX], 16),
+            ([1, 2, 0], 1),
+            ([1, 2, 1 << 3], 0), // no longer idle, and no role is added
+            ([1, 2, 0], 0),
+            ([2, 2, 1 << 3], 1), // role 1 is not active there
+            ([31, 2, 1 << 1], 1),
+            ([30, 63, 0], 1),
+        ] {
+            start(&mut run, guard, arguments, answer);
+        }
+    }
+}
+
+/// A session that holds something open keeps its user, roles and openings.
+#[test]
+fn starts_of_busy_sessions() {
+    for guard in guards() {
+        let mut run = after(guard, &format!("{ABOVE}; assign 4 5; start 0 2 8; open 0 9 0"));
+        for (user, roles) in [(2, 8), (2, 2), (2, 0), (4, 32), (4, 0), (4, u64::MAX)] {
+            start(&mut run, guard, [0, user, roles], 0);
+        }
+    }
+}
+
+/// All 64 roles, by a chain under one that is assigned and by assignment of each, and all but one.
+#[test]
+fn starts_with_all_roles() {
+    let chain: String = (1..64).map(|role| format!("above {role} {}; ", role - 1)).collect();
+    let each: String = (0..64).map(|role| format!("; assign 7 {role}")).collect();
+    for guard in guards() {
+        for text in [format!("roles; {chain}run; assign 7 63"), format!("roles; run{each}")] {
+            let mut run = after(guard, &text);
+            start(&mut run, guard, [0, 7, u64::MAX], 1);
+            start(&mut run, guard, [0, 7, u64::MAX], 0);
+            start(&mut run, guard, [1, 7, 1 << 63], 1);
+        }
+        let mut run = after(guard, &format!("roles; {chain}run; assign 7 62"));
+        start(&mut run, guard, [0, 7, u64::MAX], 0);
+        start(&mut run, guard, [0, 7, u64::MAX >> 1], 1);
+    }
+}
+
+/// A damaged table is refused before the code and the arguments are looked at, also where a start would mend it.
+#[test]
+fn starts_on_damaged_tables() {
+    // a role not its own junior; a grant that is no permission; a user too many; an idle session with a role, an opening
+    for (at, word) in [(7, 0), (145, 1 << 5), (649, 65), (681, 8), (720, 1 << 9)] {
+        for guard in guards() {
+            let mut run = after(guard, "roles; above 5 3; above 3 1; run; assign 2 3");
+            run.table[at] = word;
+            for arguments in [[1, 2, 8], [1, 2, 0], [1, 2, u64::MAX], [32, 64, u64::MAX]] {
+                start(&mut run, guard, arguments, 13);
+            }
+            run.table.push(0);
+            start(&mut run, guard, [1, 2, 8], 12);
+        }
+    }
+}
+
+/// A label start answers and writes as the role start with its level's two roles, and spends 1 with either answer.
+#[test]
+fn a_label_start_is_one_role_start() {
+    let pairs = || [0, 9, 17, 31].into_iter().flat_map(|clearance| (0..32).map(move |level| (clearance, level)));
+    for guard in guards() {
+        for (clearance, level) in pairs() {
+            let text = format!("lattice; clear 4 {clearance}; run");
+            let (mut by_label, mut by_roles) = (after(guard, &text), after(guard, &text));
+            let cleared = label(clearance).dominates(label(level));
+            // the same again is always no
+            for answer in [u64::from(cleared), 0] {
+                let reply = by_label.step(guard, &Step::Label([3, 2, 4, level])).map(|reply| reply.answers);
+                assert_eq!(reply, Some(vec![answer, 1]), "clearance {clearance}, level {level}, {}", guard.name);
+                start(&mut by_roles, guard, [2, 4, 1 << level | 1 << (32 + level)], answer);
+                assert!(by_label.table == by_roles.table, "clearance {clearance}, level {level}, {}", guard.name);
             }
         }
     }

@@ -30,8 +30,27 @@ fn check_output(input: &[u8], output: &str) {
 fn the_listing_of_the_scope() {
     let input = "lattice\nclear 4 17\nlabel 7 9\nlabel 8 25\nrun\nstart 2 4 17\nopen 2 7 0\nopen 2 7 1\nopen 2 8 1\n\
                  start 3 4 18\nreclear 4 9\nend 2\nreclear 4 9\n";
-    let output = "line answer spent\n1 1 0\n2 1 0\n3 1 0\n4 1 0\n5 1 0\n6 1 3\n7 1 1\n8 0 1\n9 1 1\n10 0 3\n11 0 3\n\
+    let output = "line answer spent\n1 1 0\n2 1 0\n3 1 0\n4 1 0\n5 1 0\n6 1 1\n7 1 1\n8 0 1\n9 1 1\n10 0 1\n11 0 3\n\
                   12 1 1\n13 1 2\n";
+    check_output(input.replace(' ', "\t").as_bytes(), &output.replace(' ', "\t"));
+}
+
+/// A start of a role transcript has three fields, the third any number below 2^64; its yes and its no spend 1.
+#[test]
+fn starts_with_roles() {
+    let input = "roles\nabove 5 3\nabove 3 1\nrun\nassign 2 3\nstart 0 2\nstart 0 2 0 0\nstart 0 2 10\nactivate 0 5\n\
+                 start 1 2 40\nstart 1 2 18446744073709551615\nstart 1 2 18446744073709551616\nstart 1 2 08\n\
+                 start 32 2 18446744073709551615\nstart 1 2 0\nstart 1 2 8\n";
+    let output = "line answer spent\n1 1 0\n2 1 0\n3 1 0\n4 1 0\n5 1 1\n6 10 0\n7 10 0\n8 1 1\n9 0 1\n10 0 1\n11 0 1\n\
+                  12 10 0\n13 10 0\n14 16 0\n15 1 1\n16 0 1\n";
+    check_output(input.replace(' ', "\t").as_bytes(), &output.replace(' ', "\t"));
+}
+
+/// A label start spends 1 with a no for its level, with a yes and with a no for a session in use, and 0 where it is refused.
+#[test]
+fn label_starts() {
+    let input = "lattice\nclear 4 17\nrun\nstart 3 4 18\nstart 3 4 17\nstart 3 4 17\nstart 3 4 32\nstart 3 4\n";
+    let output = "line answer spent\n1 1 0\n2 1 0\n3 1 0\n4 0 1\n5 1 1\n6 0 1\n7 16 0\n8 10 0\n";
     check_output(input.replace(' ', "\t").as_bytes(), &output.replace(' ', "\t"));
 }
 
