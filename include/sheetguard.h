@@ -56,7 +56,8 @@ enum {
 enum {
     SHEETGUARD_OPEN = 1,     /* session, object, mode: yes when the pair is effective for the session */
     SHEETGUARD_CLOSE = 2,    /* session, object, mode: always yes */
-    SHEETGUARD_START = 3,    /* session, user: yes when the session is idle */
+    SHEETGUARD_START = 3,    /* session, user, roles (a set, any word): yes when the session is idle and every role of the
+                                set is authorised for the user; then exactly these are active */
     SHEETGUARD_END = 4,      /* session: yes when it is not idle */
     SHEETGUARD_ACTIVATE = 5, /* session, role: yes when the role is authorised for the session's user */
     SHEETGUARD_DROP = 6,     /* session, role: yes when the table without it is sound */

@@ -1,5 +1,5 @@
-//! A role table: a session opens one column of a sheet through a junior of its role and is refused another. Prints each
-//! answer, and stops where it is not the one that is expected.
+//! A role table: a session starts with a role, opens one column of a sheet through a junior of it and is refused another.
+//! Prints each answer, and stops where it is not the one that is expected.
 //!
 //! `cargo run --offline -p sheetguard --example column`
 
@@ -17,10 +17,11 @@ fn main() -> Result<(), Refusal> {
     let requests = [
         (RoleRequest::Grant { role: 1, mode: 0, object: 9 }, Ok(Answer::Yes)),
         (RoleRequest::Assign { user: 2, role: 3 }, Ok(Answer::Yes)),
-        (RoleRequest::Start { session: 0, user: 2 }, Ok(Answer::Yes)),
-        (RoleRequest::Activate { session: 0, role: 3 }, Ok(Answer::Yes)),
+        (RoleRequest::Start { session: 0, user: 2, roles: 1 << 5 | 1 << 3 }, Ok(Answer::No)),
+        (RoleRequest::Start { session: 0, user: 2, roles: 1 << 3 }, Ok(Answer::Yes)),
         (RoleRequest::Open { session: 0, object: 9, mode: 0 }, Ok(Answer::Yes)),
         (RoleRequest::Open { session: 0, object: 10, mode: 0 }, Ok(Answer::No)),
+        (RoleRequest::Activate { session: 0, role: 1 }, Ok(Answer::Yes)),
         (RoleRequest::Revoke { role: 1, mode: 0, object: 9 }, Ok(Answer::No)),
         (RoleRequest::Grant { role: 1, mode: 1, object: 9 }, Err(Refusal::NoPermission)),
     ];

@@ -253,14 +253,15 @@ pub fn set_up_labels(table: &mut [u64], clearances: &[u8], labels: &[u8]) -> Res
 /// let requests = [
 ///     RoleRequest::Grant { role: 1, mode: 0, object: 9 },
 ///     RoleRequest::Assign { user: 2, role: 1 },
-///     RoleRequest::Start { session: 0, user: 2 },
-///     RoleRequest::Activate { session: 0, role: 1 },
+///     RoleRequest::Start { session: 0, user: 2, roles: 1 << 1 },
 ///     RoleRequest::Open { session: 0, object: 9, mode: 0 },
 /// ];
 /// for request in requests {
 ///     assert_eq!(role_request(&mut table, request)?, Answer::Yes);
 /// }
 /// assert_eq!(role_request(&mut table, RoleRequest::Drop { session: 0, role: 1 })?, Answer::No);
+/// let start = RoleRequest::Start { session: 1, user: 2, roles: 1 << 1 | 1 << 3 };
+/// assert_eq!(role_request(&mut table, start)?, Answer::No);
 /// let other = RoleRequest::Grant { role: 1, mode: 1, object: 9 };
 /// assert_eq!(role_request(&mut table, other), Err(Refusal::NoPermission));
 /// # Ok(())

@@ -8,8 +8,9 @@ pub enum RoleRequest {
     Open { session: u64, object: u64, mode: u64 },
     /// Always yes.
     Close { session: u64, object: u64, mode: u64 },
-    /// Yes when the session is idle; it then belongs to the user and has no roles.
-    Start { session: u64, user: u64 },
+    /// Yes when the session is idle and every role of the set is authorised for the user; the session then belongs to the
+    /// user, with exactly these roles active. Any word is a set of roles, 0 the empty one.
+    Start { session: u64, user: u64, roles: u64 },
     /// Yes when the session is not idle; it then is, without roles and openings.
     End { session: u64 },
     /// Yes when the role is authorised for the user of the session.
@@ -32,7 +33,7 @@ impl RoleRequest {
         match self {
             RoleRequest::Open { session, object, mode } => [1, session, object, mode],
             RoleRequest::Close { session, object, mode } => [2, session, object, mode],
-            RoleRequest::Start { session, user } => [3, session, user, 0],
+            RoleRequest::Start { session, user, roles } => [3, session, user, roles],
             RoleRequest::End { session } => [4, session, 0, 0],
             RoleRequest::Activate { session, role } => [5, session, role, 0],
             RoleRequest::Drop { session, role } => [6, session, role, 0],
