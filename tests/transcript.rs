@@ -176,8 +176,8 @@ const LISTING: &str =
     "lattice\nclear\t4\t17\nlabel\t7\t9\nlabel\t8\t25\nrun\nstart\t2\t4\t17\nopen\t2\t7\t0\nopen\t2\t7\t1\n\
 open\t2\t8\t1\nstart\t3\t4\t18\nreclear\t4\t9\nend\t2\nreclear\t4\t9\n";
 const LISTED: &str =
-    "line\tanswer\tspent\n1\t1\t0\n2\t1\t0\n3\t1\t0\n4\t1\t0\n5\t1\t0\n6\t1\t3\n7\t1\t1\n8\t0\t1\n9\t1\t1\n\
-10\t0\t3\n11\t0\t3\n12\t1\t1\n13\t1\t2\n";
+    "line\tanswer\tspent\n1\t1\t0\n2\t1\t0\n3\t1\t0\n4\t1\t0\n5\t1\t0\n6\t1\t1\n7\t1\t1\n8\t0\t1\n9\t1\t1\n\
+10\t0\t1\n11\t0\t3\n12\t1\t1\n13\t1\t2\n";
 
 #[test]
 fn the_listing_of_the_scope() {
@@ -212,9 +212,10 @@ fn refusals_in_order() {
         ("roles", 11),
         ("lattice", 11),
         ("above 1", 10),
-        ("start 32 0", 16),
-        ("start 0 64", 16),
-        ("start 0 0 0", 10),
+        ("start 32 0 0", 16),
+        ("start 0 64 0", 16),
+        ("start 0 0", 10),
+        ("start 0 0 0 0", 10),
         ("grant 0 0 0", 17),
         ("revoke 0 0 0", 17),
         ("close 31 63 7", 1),
@@ -249,12 +250,10 @@ fn words_of_the_other_mode() {
         ("permit 0 0", 10),
         ("above 1 0", 10),
         ("activate 0 0", 10),
-        ("start 0 0", 10),
         ("run", 1),
         ("permit 0 0", 10),
         ("activate 0 0", 10),
         ("grant 0 0 0", 10),
-        ("start 0 0", 10),
         ("start 0 0 0", 1),
     ]);
     check(&[("roles", 1), ("clear 0 0", 10), ("label 0 0", 10), ("reclear 0 0", 10), ("run", 1), ("reclear 0 0", 10)]);
@@ -360,7 +359,7 @@ fn set_up_lists() {
         ("permit 0 9", 1),
         ("run", 1),
         ("assign 2 5", 1),
-        ("start 0 2", 1),
+        ("start 0 2 0", 1),
         ("activate 0 3", 1),
         ("activate 0 4", 0),
     ]);
@@ -388,7 +387,7 @@ fn cycles() {
         ("above 2 3", 1),
         ("above 3 1", 1),
         ("run", 20),
-        ("start 0 0", 11),
+        ("start 0 0 0", 11),
         ("permit 0 0", 1),
         ("above 9 64", 19),
         ("run", 20),
@@ -408,8 +407,8 @@ fn bench_cases() {
         ("run", 1),
         ("grant 1 0 9", 1),
         ("grant 1 1 9", 17),
-        ("start 0 2", 1),
-        ("start 0 2", 0),
+        ("start 0 2 0", 1),
+        ("start 0 2 0", 0),
         ("assign 2 3", 1),
         ("activate 0 5", 0),
         ("activate 0 1", 1),
@@ -425,6 +424,27 @@ fn bench_cases() {
         ("revoke 1 0 9", 1),
         ("close 5 9 0", 1),
         ("open 5 9 0", 0),
+    ]);
+}
+
+/// The third field of a start in `roles` is a set of roles: each must be authorised, and no number below 2^64 is too large.
+#[test]
+fn starts_with_roles() {
+    check(&[
+        ("roles", 1),
+        ("above 5 3", 1),
+        ("above 3 1", 1),
+        ("run", 1),
+        ("assign 2 3", 1),
+        ("start 0 2", 10),
+        ("start 0 2 10", 1),
+        ("deassign 2 3", 0),
+        ("start 1 2 40", 0),
+        ("start 1 2 18446744073709551615", 0),
+        ("start 1 2 18446744073709551616", 10),
+        ("start 32 2 18446744073709551615", 16),
+        ("start 1 2 0", 1),
+        ("start 1 2 8", 0),
     ]);
 }
 
@@ -489,7 +509,7 @@ fn pieces_cut_at_every_byte() {
 fn starts_and_ends(pairs: u64) -> (String, Vec<u8>) {
     let mut input = "roles\nrun\n".to_string();
     for i in 0..pairs {
-        input += &format!("start\t{}\t{}\nend\t{}\n", i % 32, i % 61, i % 32);
+        input += &format!("start\t{}\t{}\t0\nend\t{}\n", i % 32, i % 61, i % 32);
     }
     (input, output_of((0..2 + 2 * pairs).map(|i| (1, u64::from(i > 1)))))
 }
@@ -549,7 +569,7 @@ fn nothing_is_set_up_at_the_start() {
         }
     }
     for r in 0..64 {
-        input += &format!("assign\t{r}\t{r}\nstart\t0\t{r}\n");
+        input += &format!("assign\t{r}\t{r}\nstart\t0\t{r}\t0\n");
         wanted.extend([1, 1]);
         for q in 0..64 {
             input += &format!("activate\t0\t{q}\n");
