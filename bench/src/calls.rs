@@ -62,6 +62,13 @@ fn label(name: &'static str, code: u64, answer: u64, spent: u64) -> Call {
     Call::new(name, &table, label_ask(request))
 }
 
+/// A call whose answer is known.
+fn answered(name: &'static str, table: &[u64], ask: Ask, answer: u64) -> Call {
+    let call = Call::new(name, table, ask);
+    assert_eq!(call.answer, answer, "{name}");
+    call
+}
+
 /// The soundness test, by a request that is refused straight after it.
 fn sound(name: &'static str, table: &[u64]) -> Call {
     Call::new(name, table, role_ask([0, 0, 0, 0]))
@@ -77,6 +84,9 @@ pub fn rows() -> Vec<Call> {
     let set_up: Ask = Box::new(move |guard, table| (guard.role_setup)(table, &chain, &[u64::MAX; 8]));
     let same = tables::plant();
     let likeness: Ask = Box::new(move |guard, table| (guard.alike)(table, &same));
+    // session 16 is idle on both tables; user 1 of the plant has role 1, above the others; user 0 is cleared to 0
+    let start = role_ask([3, 16, 1, 1 << 1 | 1 << 3 | 1 << 7 | 1 << 15]);
+    let label_start = |level| label_ask([3, 16, 0, level]);
     vec![
         sound("sound: empty table", &tables::empty()),
         sound("sound: label image, 16 sessions", &tables::labels()),
@@ -84,13 +94,14 @@ pub fn rows() -> Vec<Call> {
         role("role open, yes", 1, 1),
         role("role open, no", 1, 0),
         role("role close", 2, 1),
+        answered("role start", &tables::plant(), start, 1),
         role("role activate", 5, 1),
         role("role drop", 6, 1),
         role("role deassign", 8, 1),
         role("role revoke", 10, 1),
         label("label open", 1, 1, 1),
-        label("label start, yes", 3, 1, 3),
-        label("label start, no", 3, 0, 3),
+        answered("label start, yes", &tables::labels(), label_start(0), 101),
+        answered("label start, no", &tables::labels(), label_start(1), 1),
         label("label reclear", 5, 1, 2),
         Call::new("effective permissions", &tables::plant(), permissions),
         Call::new("role set-up, chain of 64", &tables::empty(), set_up),

@@ -57,9 +57,7 @@ pub fn plant() -> Vec<u64> {
         role(&mut table, 7, user, user * 7 % 64, 0);
     }
     for session in 0..16 {
-        role(&mut table, 3, session, session, 0);
-        role(&mut table, 5, session, session % 16, 0);
-        role(&mut table, 5, session, session * 7 % 64, 0);
+        role(&mut table, 3, session, session, 1 << (session % 16) | 1 << (session * 7 % 64));
         for object in (0..64).step_by(2) {
             for mode in 0..4 {
                 not_refused((GUARD.role_request)(&mut table, 1, session, object, mode));
