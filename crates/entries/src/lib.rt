@@ -82,7 +82,7 @@ fn role_item(w: Word, n: u64) -> Item
         Word::Run => taken(0, Item::Runs, n),
         Word::Open => taken(3, Item::Asks(1), n),
         Word::Close => taken(3, Item::Asks(2), n),
-        Word::Start => taken(3, Item::Asks(3), n),
+        Word::Start => taken(3, Item::Asks(3), n), // session, user, roles
         Word::End => taken(1, Item::Asks(4), n),
         Word::Activate => taken(2, Item::Asks(5), n),
         Word::Drop => taken(2, Item::Asks(6), n),
@@ -108,7 +108,7 @@ fn lattice_item(w: Word, n: u64) -> Item
         Word::Run => taken(0, Item::Runs, n),
         Word::Open => taken(3, Item::Asks(1), n),
         Word::Close => taken(3, Item::Asks(2), n),
-        Word::Start => taken(3, Item::Asks(3), n),
+        Word::Start => taken(3, Item::Asks(3), n), // session, user, level
         Word::End => taken(1, Item::Asks(4), n),
         Word::Activate => Item::Malformed,
         Word::Drop => Item::Malformed,
