@@ -72,6 +72,16 @@ fn label(number: u64) -> Label {
     Label::of(number).expect("a label is below 32")
 }
 
+/// Rows from 700: starts with roles chosen, on the table of the first rows.
+const CHOSEN: &str = "
+    roles; above 5 3; above 3 1; permit 0 9; run
+    assign 2 3; grant 1 0 9
+    start 0 2 10; start 1 2 40; start 1 2 18446744073709551615; start 32 2 18446744073709551615
+    start 1 2 0; start 1 2 8
+    open 0 9 0; open 1 9 0
+    start 2 2 8; drop 2 3; open 2 9 0
+    start 3 64 0; start 4 3 1; start 4 3 0";
+
 /// The second implementation and every guard that is held to it.
 fn guards() -> impl Iterator<Item = &'static Guard> {
     [&REFERENCE].into_iter().chain(GUARDS)
@@ -124,6 +134,7 @@ fn numbered(first: u64, rows: Vec<[u64; 2]>) -> impl Iterator<Item = String> {
 fn rows_of_the_program_cases() {
     let source = [SOURCE, DERIVED].join("\n");
     let played = [(100, case(BENCH)), (200, case(&source)), (300, case(LISTING)), (400, case(CONFUSED))];
+    let chosen = case(CHOSEN);
     // no call compares labels: these rows are the second implementation's alone
     let compared = PAIRS.map(|(a, b)| [u64::from(label(a).dominates(label(b))), 0]);
     for guard in guards() {
@@ -133,12 +144,13 @@ fn rows_of_the_program_cases() {
         }
         rows.extend(numbered(501, compared.to_vec()));
         rows.extend(numbered(601, play(&refused(), guard)));
+        rows.extend(numbered(700, play(&chosen, guard)));
         for (row, expected) in rows.iter().zip(EXPECTED.lines()) {
             assert_eq!(row, expected, "{}", guard.name);
         }
         assert_eq!(rows.len(), EXPECTED.lines().count(), "{}", guard.name);
     }
-    for (_, case) in &played {
+    for case in played.iter().map(|(_, case)| case).chain([&chosen]) {
         assert_eq!(compare(case, GUARDS, &mut Reached::default()), Ok(()));
     }
 }
