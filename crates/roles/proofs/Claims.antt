@@ -3,35 +3,39 @@ use Prim.Native.Nat.{ℕ, _^_, _<_}
 use mathlib.Core.Path.{_≡_, refl, sym, ap, ap₂, subst, _∙_}
 use mathlib.Core.Bool.{Bool, true, false, not}
 use mathlib.Core.List.{List, [], _∷_}
+use native.Mathlib.Omega.{arith}
 use native.Mathlib.Nat.{le-of-suc-le-suc}
 use lib.Dec.{eqb}
-use borrow.Author.Tests.{le-leb, eqb-true, eqb-false, not-true}
+use borrow.Author.Tests.{eqb-true, eqb-false, not-true}
 use Rattle.bits.specs.Words.{_and_, _or_, upd, has, _with_}
 use Rattle.bits.specs.Sets.{_without_}
 use Rattle.bits.proofs.Truth.{clash, by-truth, same-truth, and-intro, and-left, and-right, false-or, true-and, false-and, and-false, and-comm}
 use Rattle.bits.proofs.Below.{any-intro, any-elim}
 use Rattle.bits.proofs.Word.{has-with, has-without, with-there, without-absent}
+use Rattle.bits.proofs.Members.{each-intro, each-elim}
 use Rattle.table.specs.State.{State}
-use Rattle.table.specs.Authority.{senior, permission, effective}
+use Rattle.table.specs.Authority.{senior, permission, idle, authorised, effective}
 use Rattle.table.specs.Sound.{Sound}
 use Rattle.table.specs.Reading.{state}
 use Rattle.table.specs.Table.{encode}
-use Rattle.table.proofs.State.{effective-intro, effective-elim}
+use Rattle.table.proofs.State.{authorised-intro, authorised-elim, effective-intro, effective-elim}
 use Rattle.table.proofs.Sound.{sound-elim, sound-intro}
 use Rattle.table.proofs.Table.{table-length}
 use Rattle.table.proofs.Agree.{Agree, agree-refl, sound-agree, upd-other, by-upd, upd-own, grid-same, agree-own-holds, agree-own-active, agree-own-assigned, agree-own-granted}
-use Rattle.table.proofs.Encode.{state-encode, encode-cong, encode-state}
+use Rattle.table.proofs.Encode.{state-encode, encode-cong, encode-state, write-owner, write-active}
 use Rattle.sound.specs.Answers.{isSound}
 use Rattle.sound.proofs.Answers.{sound-state, sound-table}
-use Rattle.roles.specs.Request.{ask, Outcome, within}
-use Rattle.roles.specs.Roles.{Request, opens, closes, starts, ends, activates, drops, assigns, deassigns, grants, revokes, isCode, limits, inRange, decode, known, allowed, changed}
+use Rattle.roles.specs.Request.{Ask, ask, Outcome}
+use Rattle.roles.specs.Roles.{Request, opens, closes, starts, ends, activates, drops, assigns, deassigns, grants, revokes, limits, inRange, decode, known, allowed, changed}
 use Rattle.roles.specs.Guard.{roleStep}
 use Rattle.roles.specs.Served.{Ranged}
 use Rattle.roles.specs.Source.{Sigma, sigma, EP, opened, closed, tauOpen, tauClose, Same}
-use Rattle.roles.specs.Claims.{Unchanged, after, KeptSound, ServedSame, IsTableOne, OpenIsTableOne, CloseIsTableOne, idempotent, AddedAgain}
+use Rattle.roles.specs.Claims.{Unchanged, after, KeptSound, ServedSame, IsTableOne, OpenIsTableOne, CloseIsTableOne, StartMeans, StartWrites, idempotent, AddedAgain}
 use Rattle.roles.proofs.Serving.{decide-yes, decide-no}
+use Rattle.roles.proofs.Codes.{is-code}
 use Rattle.roles.proofs.Same.{step-same}
-use Rattle.roles.proofs.Steps.{Passed, by-step, decided, in-reach, step-sound}
+use Rattle.roles.proofs.Steps.{Passed, passed, by-step, decided, in-reach, step-sound}
+use Rattle.roles.proofs.Requests.{within-intro}
 
 answer-of : {A : Type 0} {o o′ : Outcome A} → o ≡ o′ → o .answer ≡ o′ .answer
 answer-of {A} e = ap (λ (p : Outcome A). p .answer) e
@@ -157,24 +161,16 @@ module _ (S : State) (s o x : ℕ) where
 -- an opening or a closing with arguments in range, on a sound table
 module _ (t : List ℕ) (s o x : ℕ) (f : isSound t ≡ true) (hs : s < 32) (ho : o < 64) (hx : x < 8) where
   open-passed : Passed t (ask 1 s o x)
-  unfolding isCode inRange limits within decode known _and_
-  open-passed = record {
-    table = sound-table t f;
-    is-sound = sound-state t f;
-    code = refl;
-    range = and-intro (le-leb s 31 (le-of-suc-le-suc hs)) (and-intro (le-leb o 63 (le-of-suc-le-suc ho)) (le-leb x 7 (le-of-suc-le-suc hx)));
-    is-known = refl;
-  }
+  unfolding inRange limits decode known
+  open-passed =
+      passed t (ask 1 s o x) f (is-code _ (omega arith) (omega arith))
+      (within-intro _ 1 s o x (le-of-suc-le-suc hs) (le-of-suc-le-suc ho) (le-of-suc-le-suc hx)) refl
 
   close-passed : Passed t (ask 2 s o x)
-  unfolding isCode inRange limits within decode known _and_
-  close-passed = record {
-    table = sound-table t f;
-    is-sound = sound-state t f;
-    code = refl;
-    range = and-intro (le-leb s 31 (le-of-suc-le-suc hs)) (and-intro (le-leb o 63 (le-of-suc-le-suc ho)) (le-leb x 7 (le-of-suc-le-suc hx)));
-    is-known = refl;
-  }
+  unfolding inRange limits decode known
+  close-passed =
+      passed t (ask 2 s o x) f (is-code _ (omega arith) (omega arith))
+      (within-intro _ 2 s o x (le-of-suc-le-suc hs) (le-of-suc-le-suc ho) (le-of-suc-le-suc hx)) refl
 
 -- a yes and a no, here and there
 module _ (t : List ℕ) {o : Outcome (List ℕ)} {τ : Outcome Sigma} where
@@ -208,6 +204,46 @@ unfolding tauClose allowed decode
 close-is-table-one t s o x f hs ho hx =
     yes-one t (changed (state t) (closes s o x)) (closed (sigma (state t)) s o x)
     (decided t (ask 2 s o x) (close-passed t s o x f hs ho hx) ∙ decide-yes 1 1 _ t refl) (decide-yes 1 1 _ _ refl) (closed-sigma (state t) s o x)
+
+-- ---- a start
+
+module _ (t : List ℕ) (q : Ask) (p : Passed t q) where
+  allowed-yes : allowed (state t) (decode q) ≡ true → roleStep t q .answer ≡ 1
+  allowed-yes a = answer-of (decided t q p ∙ decide-yes 1 1 _ t a)
+
+  yes-allowed : roleStep t q .answer ≡ 1 → allowed (state t) (decode q) ≡ true
+  yes-allowed e =
+      by-truth (allowed (state t) (decode q)) (λ a. a)
+      (λ a. let z = sym (answer-of (decided t q p ∙ decide-no 1 1 _ t a)) ∙ e in absurd (omega arith))
+
+pub start-means : StartMeans
+unfolding inRange limits decode known allowed
+start-means t s u roles f hs hu hr =
+    let S = state t in
+    let q = ask 3 s u roles in
+    let p =
+    passed t q f (is-code q (omega arith) (omega arith))
+    (within-intro _ 3 s u roles (le-of-suc-le-suc hs) (le-of-suc-le-suc hu) (le-of-suc-le-suc hr)) refl in (
+      λ e.
+          let a = yes-allowed t q p e in
+          record {
+            is-idle = and-left _ _ a;
+            all-authorised = λ r h m. authorised-elim S u r (each-elim roles (authorised S u) (and-right (idle S s) _ a) r h m);
+          },
+      λ m. allowed-yes t q p
+          (and-intro (m .is-idle) (each-intro roles (authorised S u) (λ r h k. authorised-intro S u r (m .all-authorised r h k)))),
+    )
+
+pub start-writes : StartWrites
+unfolding decode changed
+start-writes t s u roles e =
+    let q = ask 3 s u roles in
+    by-step t q
+    (λ n h z. let k = sym (answer-of z) ∙ e in absurd (omega arith))
+    (λ p.
+    let hs = in-reach t q p .0 in
+    state-of (decided t q p ∙ decide-yes 1 1 _ t (yes-allowed t q p e))
+    ∙ sym (write-active _ (write-owner (state t) (encode-state t (table-length t (p .table))) s _ hs) s roles hs))
 
 -- ---- what is there added, what is absent removed
 
@@ -243,7 +279,7 @@ module _ (S : State) (f : Sound S) (w : Words S) where
 pub added-again : AddedAgain
 added-again t q w f c r k i =
     let S = state t in
-    let p : Passed t q = record { table = sound-table t f; is-sound = sound-state t f; code = c; range = r; is-known = k } in
+    let p = passed t q f c r k in
     let v : Words S = record { assigned-word = λ u. w _; granted-word = λ x o. w _; active-word = λ s. w _; holds-word = λ s x. w _ } in
     let g = sound-elim S (sound-state t f) in
     let d = decided t q p ∙ decide-yes 1 1 _ t (is-allowed S g v (decode q) (in-reach t q p) i) in

@@ -37,6 +37,9 @@ pub record Passed (t : List ℕ) (q : Ask) : Type 0 where
   pub is-known : known (state t) (decode q) ≡ true
 
 module _ (t : List ℕ) (q : Ask) where
+  pub passed : isSound t ≡ true → isCode q ≡ true → inRange q ≡ true → known (state t) (decode q) ≡ true → Passed t q
+  passed f c r k = record { table = sound-table t f; is-sound = sound-state t f; code = c; range = r; is-known = k }
+
   pub by-step : {A : Type 0} → ((n : ℕ) → 1 < n → roleStep t q ≡ refuse n t → A) → (Passed t q → A) → A
   by-step f g =
       by-truth (isTable t)
@@ -128,12 +131,6 @@ module _ (S : State) (f : Sound S) (q : Ask) (c : isCode q ≡ true) (r : inRang
   pub step-encode : known S (decode q) ≡ true → roleStep (encode S) q ≡ decide (allowed S (decode q)) 1 1 (encode (changed S (decode q))) (encode S)
   step-encode k =
       let a = state-encode S in
-      decided (encode S) q (record {
-        table = sound-table (encode S) table-sound;
-        is-sound = sound-state (encode S) table-sound;
-        code = c;
-        range = r;
-        is-known = known-agree a (decode q) reach ∙ k;
-      })
+      decided (encode S) q (passed (encode S) q table-sound c r (known-agree a (decode q) reach ∙ k))
       ∙ ap₂ (λ (b : Bool) (t : List ℕ). decide b 1 1 t (encode S))
       (allowed-agree a (agree-sound (agree-sym a) f) (decode q) reach) (encode-cong (changed-agree a (decode q) reach))

@@ -1,8 +1,10 @@
 -- What is claimed of the role guard, each as the answer to a question. proofs/Claims.antt proves them.
-use Rattle.bits.specs.Words.{ℕ, _^_, _<_, _≡_, Bool, true, false, not, List, [], _∷_, has}
+use mathlib.Core.Logic.{_↔_}
+use lib.ListN.{set}
+use Rattle.bits.specs.Words.{ℕ, suc, _^_, _<_, _≡_, Bool, true, false, not, List, [], _∷_, has}
 use Rattle.table.specs.State.{State}
-use Rattle.table.specs.Authority.{senior, permission}
-use Rattle.table.specs.Reading.{word, state}
+use Rattle.table.specs.Authority.{senior, permission, idle, Authorised}
+use Rattle.table.specs.Reading.{word, ownerAt, activeAt, state}
 use Rattle.sound.specs.Answers.{isSound}
 use Rattle.roles.specs.Request.{Ask, ask, Outcome}
 use Rattle.roles.specs.Roles.{Request, opens, closes, starts, ends, activates, drops, assigns, deassigns, grants, revokes, isCode, inRange, decode, known}
@@ -40,6 +42,23 @@ abbrev pub CloseIsTableOne : Type 0
 CloseIsTableOne =
     (t : List ℕ) (s o x : ℕ) → isSound t ≡ true → s < 32 → o < 64 → x < 8
     → IsTableOne t (roleStep t (ask 2 s o x)) (tauClose (sigma (state t)) s o x)
+
+-- When is a start answered yes? Where the session is idle and every role of the set is authorised for the user (02, S-1): the
+-- CreateSession of INCITS 359.
+pub record MayStart (S : State) (s u roles : ℕ) : Type 0 where
+  pub is-idle : idle S s ≡ true
+  pub all-authorised : (r : ℕ) → r < 64 → has roles r ≡ true → Authorised S u r
+
+abbrev pub StartMeans : Type 0
+StartMeans =
+    (t : List ℕ) (s u roles : ℕ) → isSound t ≡ true → s < 32 → u < 64 → roles < 2 ^ 64
+    → roleStep t (ask 3 s u roles) .answer ≡ 1 ↔ MayStart (state t) s u roles
+
+-- What does a yes to it write? The session's user and its active roles, exactly those of the set, and no other word.
+abbrev pub StartWrites : Type 0
+StartWrites =
+    (t : List ℕ) (s u roles : ℕ) → roleStep t (ask 3 s u roles) .answer ≡ 1
+    → roleStep t (ask 3 s u roles) .state ≡ set (set t (ownerAt s) (suc u)) (activeAt s) roles
 
 -- what the request adds is there, or what it removes is absent
 unfoldable pub idempotent : State → Request → Bool

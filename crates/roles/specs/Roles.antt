@@ -1,4 +1,4 @@
--- The ten role requests: the table of 01 ("Role requests"), a line for each.
+-- The ten role requests: the table of 01 ("Role requests"), a line for each; start with its roles chosen (02, S-1).
 use Rattle.bits.specs.Words.{ℕ, suc, _-_, Bool, true, not, List, [], _∷_, leb, getD, _and_, upd, each, _with_}
 use Rattle.bits.specs.Sets.{_without_}
 use Rattle.table.specs.State.{State}
@@ -21,7 +21,8 @@ pub data Request : Type 0 where
 unfoldable pub isCode : Ask → Bool
 isCode q = leb 1 (q .code) and leb (q .code) 10
 
--- the largest value of each argument, a row for each code from 1 on; one that is not listed must be 0
+-- the largest value of each argument, a row for each code from 1 on; one that is not listed must be 0, and the roles of a start
+-- are any 64-bit number
 unfoldable pub limits : List (List ℕ)
 limits =
     (31 ∷ 63 ∷ 7 ∷ [])

@@ -205,7 +205,8 @@ fn revoke(t: &mut [u64], r: usize, x: usize, o: usize) -> bool
     false
 }
 
-// The largest value of each argument, a row for each code from 1 on; one that is not listed must be 0.
+// The largest value of each argument, a row for each code from 1 on; one that is not listed must be 0, and the roles of a start
+// are any 64-bit number.
 const LIMITS: [[u64; 3]; 10] = [
     [31, 63, 7],
     [31, 63, 7],
