@@ -21,8 +21,8 @@
  *     and no other thread uses it during the call.
  *
  * Users, roles and objects are 0 to 63, sessions 0 to 31, modes 0 to 7, labels 0 to 31. A set of them is a word, with
- * bit i (worth 1 << i) set when i is a member. There is no state beside the table, so different tables may be used by
- * different threads at the same time.
+ * bit i (worth UINT64_C(1) << i) set when i is a member. There is no state beside the table, so different tables may be
+ * used by different threads at the same time.
  */
 #ifndef SHEETGUARD_H
 #define SHEETGUARD_H

@@ -175,6 +175,7 @@ fn check(cases: &[(&str, u64)]) {
 const LISTING: &str =
     "lattice\nclear\t4\t17\nlabel\t7\t9\nlabel\t8\t25\nrun\nstart\t2\t4\t17\nopen\t2\t7\t0\nopen\t2\t7\t1\n\
 open\t2\t8\t1\nstart\t3\t4\t18\nreclear\t4\t9\nend\t2\nreclear\t4\t9\n";
+/// The scope's output, with 1 spent on lines 6 and 10 (02, S-1).
 const LISTED: &str =
     "line\tanswer\tspent\n1\t1\t0\n2\t1\t0\n3\t1\t0\n4\t1\t0\n5\t1\t0\n6\t1\t1\n7\t1\t1\n8\t0\t1\n9\t1\t1\n\
 10\t0\t1\n11\t0\t3\n12\t1\t1\n13\t1\t2\n";

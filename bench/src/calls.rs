@@ -62,7 +62,7 @@ fn label(name: &'static str, code: u64, answer: u64, spent: u64) -> Call {
     Call::new(name, &table, label_ask(request))
 }
 
-/// A call whose answer is known.
+/// A call whose answer is known; of a label request it is 100 times the answer, plus spent.
 fn answered(name: &'static str, table: &[u64], ask: Ask, answer: u64) -> Call {
     let call = Call::new(name, table, ask);
     assert_eq!(call.answer, answer, "{name}");

@@ -286,7 +286,7 @@ const SOURCE: [u64; 184] = [
     1,
 ];
 
-// Label requests: lines 6 to 13 of the listing, and label 32.
+// Label requests: lines 6 to 13 of the listing, and label 32; a start spends 1 (02, S-1).
 const LISTING: [u64; 40] = [
     3,
     2,

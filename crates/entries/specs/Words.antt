@@ -25,7 +25,7 @@ use Rattle.entries.specs.declared.Numbers.{Numbers}
 unfoldable pub taking : ℕ → Item → ℕ → Item
 taking k i n = if eqb n k then i else Malformed
 
--- the words of `roles`; requests by their codes
+-- the words of `roles`; requests by their codes, start with its roles as third field (02, S-1)
 unfoldable pub roleItem : Word → ℕ → Item
 roleItem Roles n = taking 0 (Chooses RoleMode) n
 roleItem Lattice n = taking 0 (Chooses LatticeMode) n

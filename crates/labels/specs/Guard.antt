@@ -31,7 +31,7 @@ reclearPlan old deassigned u c =
 unfoldable pub saysYes : RoleGuard → List ℕ → Ask → Bool
 saysYes guard t q = eqb (guard t q .answer) 1
 
--- a start is code 3 with the read role and the write role of its level (02, S-1)
+-- the translation of each label request; a start is code 3 with the read role and the write role of its level (02, S-1)
 unfoldable pub plan : RoleGuard → List ℕ → Request → Plan
 plan guard t (opening s o x) = single guard t (ask 1 s o x)
 plan guard t (closing s o x) = single guard t (ask 2 s o x)

@@ -85,7 +85,7 @@ next m (starting s u y) = withSeat m s (at u y)
 next m (ending s) = withOpenings (withSeat m s idle) s (λ o x. false)
 next m (reclearing u c) = withClearance m u c
 
--- the figure that goes with yes or no
+-- the figure that goes with yes or no; 1 for every start (02, S-1)
 unfoldable pub figure : Machine → Request → Bool → ℕ
 figure m (opening s o x) b = 1
 figure m (closing s o x) b = 1

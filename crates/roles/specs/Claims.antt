@@ -43,8 +43,7 @@ CloseIsTableOne =
     (t : List ℕ) (s o x : ℕ) → isSound t ≡ true → s < 32 → o < 64 → x < 8
     → IsTableOne t (roleStep t (ask 2 s o x)) (tauClose (sigma (state t)) s o x)
 
--- When is a start answered yes? Where the session is idle and every role of the set is authorised for the user (02, S-1): the
--- CreateSession of INCITS 359.
+-- When is a start answered yes? Where the session is idle and every role of the set is authorised for the user (02, S-1).
 pub record MayStart (S : State) (s u roles : ℕ) : Type 0 where
   pub is-idle : idle S s ≡ true
   pub all-authorised : (r : ℕ) → r < 64 → has roles r ≡ true → Authorised S u r

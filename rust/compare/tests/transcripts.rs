@@ -26,6 +26,7 @@ fn check_output(input: &[u8], output: &str) {
     assert_eq!(check_transcript(input, &readers(), &mut Reached::default()), Ok(()));
 }
 
+/// The scope's listing, with 1 spent on lines 6 and 10 (02, S-1).
 #[test]
 fn the_listing_of_the_scope() {
     let input = "lattice\nclear 4 17\nlabel 7 9\nlabel 8 25\nrun\nstart 2 4 17\nopen 2 7 0\nopen 2 7 1\nopen 2 8 1\n\
