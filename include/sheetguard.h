@@ -12,7 +12,8 @@
  *     tables, the first table's before the second's).
  *
  * A no and a refusal leave all that is lent unchanged, but for *spent, which every label request writes: 0 at a refusal.
- * Four functions write the table, and at a yes alone: the two set-ups and the two requests. The other three only read it.
+ * Four functions change the table, and at a yes alone: the two set-ups and the two requests. A request may write a word
+ * and put it back before it answers no, so that its table has to be writable memory. The other three only read it.
  *
  * What a caller owes:
  *   - a pointer is never NULL, also where its length is 0, and is aligned for its type;
@@ -87,7 +88,7 @@ enum {
 };
 
 /*
- * Table: written at YES.
+ * Table: changed at YES.
  * Writes a fresh role table: who is senior to whom, what is a permission, and nothing else. juniors has 64 words, word r
  * the direct juniors of role r (its own bit is ignored); permissions has 8 words, word x the objects o for which (mode x,
  * object o) is a permission. Old contents of the table do not matter.
@@ -98,7 +99,7 @@ uint64_t sheetguard_role_setup(uint64_t *table, size_t words,
                                const uint64_t *permissions, size_t n_permissions);
 
 /*
- * Table: written at YES.
+ * Table: changed at YES.
  * A role request. Answers YES, NO, or refusal 12, 13, 15, 16 or 17.
  */
 uint64_t sheetguard_role_request(uint64_t *table, size_t words,
@@ -113,7 +114,7 @@ uint64_t sheetguard_alike(const uint64_t *first, size_t n_first,
                           const uint64_t *second, size_t n_second);
 
 /*
- * Table: written at YES.
+ * Table: changed at YES.
  * Writes a fresh label table, all sessions idle: 64 clearances, one a user, and 64 labels, one an object, a byte each. A
  * label is class * 8 + brand set, as 25 for class 3 and brand 1 (see the codes of label requests). Old contents of the
  * table do not matter.
@@ -124,7 +125,7 @@ uint64_t sheetguard_label_setup(uint64_t *table, size_t words,
                                 const uint8_t *labels, size_t n_labels);
 
 /*
- * Table: written at YES. *spent: always written.
+ * Table: changed at YES. *spent: always written.
  * A label request. Answers YES, NO, or refusal 12, 13, 14, 15 or 16; *spent becomes the number of role requests that were
  * made for it, at most 3.
  */
