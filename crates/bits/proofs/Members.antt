@@ -6,8 +6,8 @@ use lib.Dec.{eqb}
 use lib.Bits.{bitAnd, and-le-l}
 use native.Mathlib.Nat.{lt-of-le-of-lt}
 use borrow.Author.Tests.{eq-eqb, ne-eqb, eqb-true, not-true}
-use Rattle.bits.specs.Words.{has, each, subset, pack}
-use Rattle.bits.specs.Sets.{some, overlap, Some}
+use Rattle.bits.specs.Words.{has, subset, pack}
+use Rattle.bits.specs.Sets.{each, some, overlap, Some}
 use Rattle.bits.proofs.Truth.{clash, by-truth, is-false, same-truth, and-intro, and-left, and-right, or-right, or-elim, implies-intro, implies-elim}
 use Rattle.bits.proofs.Below.{all-intro, all-elim, any-intro, any-elim}
 use Rattle.bits.proofs.Word.{has-zero, has-and, has-not, has-pack, none-in}
@@ -78,11 +78,11 @@ module _ (w : ℕ) {f g : ℕ → Bool} (k : (i : ℕ) → i < 64 → f i ≡ g 
 module _ (a b : ℕ) where
   pub subset-intro : ((i : ℕ) → i < 64 → has a i ≡ true → has b i ≡ true) → subset a b ≡ true
   unfolding subset
-  subset-intro k = each-intro a (has b) k
+  subset-intro k = all-intro _ 64 (λ i h. implies-intro (has a i) (has b i) (k i h))
 
   pub subset-elim : subset a b ≡ true → (i : ℕ) → i < 64 → has a i ≡ true → has b i ≡ true
   unfolding subset
-  subset-elim e = each-elim a (has b) e
+  subset-elim e i h m = implies-elim (has a i) (has b i) (all-elim _ 64 e i h) m
 
   pub overlap-intro : (i : ℕ) → i < 64 → has a i ≡ true → has b i ≡ true → overlap a b ≡ true
   unfolding overlap
@@ -94,8 +94,10 @@ module _ (a b : ℕ) where
 
 -- every member of a is in the word of a predicate: it has the property
 pub subset-pack : (a : ℕ) (f : ℕ → Bool) → subset a (pack 64 f) ≡ each a f
-unfolding subset
-subset-pack a f = each-cong a (has-pack f 64)
+subset-pack a f =
+    same-truth
+    (λ e. each-intro a f (λ i h m. sym (has-pack f 64 i h) ∙ subset-elim a (pack 64 f) e i h m))
+    (λ e. subset-intro a (pack 64 f) (λ i h m. has-pack f 64 i h ∙ each-elim a f e i h m))
 
 -- ---- as the code works them out
 

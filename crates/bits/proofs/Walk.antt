@@ -10,11 +10,11 @@ use lib.Count.{trailingZeros, under, trailing-of-zero}
 use lib.Bits.{bitAnd, and-self, and-block, and-mask, or-shifted, and-shifted}
 use lib.Pow.{pow-pos, pow-lt}
 use borrow.Author.Tests.{eq-eqb, ne-eqb, eqb-true, eqb-false}
-use Rattle.bits.specs.Words.{_and_, _or_, if_then_else_, has, each, pack, _with_}
-use Rattle.bits.specs.Sets.{any, least, _without_, join, lowest, rest, some, IsLowest, IsRest}
+use Rattle.bits.specs.Words.{_and_, _or_, if_then_else_, has, pack, _with_}
+use Rattle.bits.specs.Sets.{each, any, least, _without_, join, lowest, rest, some, IsLowest, IsRest}
 use Rattle.bits.proofs.Truth.{clash, by-truth, is-false, same-truth, and-intro, and-left, and-right, or-left, or-right, or-elim, or-false, false-or, or-assoc, true-and, false-and}
 use Rattle.bits.proofs.Below.{least-is}
-use Rattle.bits.proofs.Word.{has-zero, has-or, has-and, has-pow, has-join, with-lt, with-elim, with-old, with-new, join-lt, without-lt, without-old, without-other, without-keeps, without-absent, same-members, pack-is}
+use Rattle.bits.proofs.Word.{has-zero, has-or, has-and, has-pow, has-join, with-lt, with-elim, with-old, with-new, join-lt, without-lt, without-old, without-other, without-keeps, without-absent, same-members, pack-is, pack-with, pack-without}
 use Rattle.bits.proofs.Members.{each-intro, each-elim, each-none, some-intro, some-elim, some-none}
 
 -- ---- the lowest bit of a number
@@ -315,3 +315,24 @@ module _ {w : ℕ} {f : ℕ → Bool} where
           (λ b. and-intro b (and-right (has m i) _ a))))
           ∙ k .left i l;
     }
+
+-- ---- a loop that packs the numbers below n of which f holds: those below i are passed
+
+pub record Packing (f : ℕ → Bool) (n i acc : ℕ) : Type 0 where
+  pub within : i ≤ n
+  pub is : acc ≡ pack i f
+
+module _ {f : ℕ → Bool} {n : ℕ} where
+  pub packing-start : Packing f n 0 0
+  unfolding pack
+  packing-start = record { within = omega arith; is = refl }
+
+  pub packing-end : {i acc : ℕ} → Packing f n i acc → n ≤ i → acc ≡ pack n f
+  packing-end k h = let w = k .within in k .is ∙ ap (λ (j : ℕ). pack j f) (omega arith)
+
+  module _ {i acc : ℕ} (k : Packing f n i acc) (h : i < n) where
+    pub packing-take : {acc′ : ℕ} → n ≤ 64 → f i ≡ true → acc′ ≡ acc with i → Packing f n (i + 1) acc′
+    packing-take l p z = record { within = omega arith; is = z ∙ ap (λ (x : ℕ). x with i) (k .is) ∙ pack-with f i (omega arith) p }
+
+    pub packing-pass : {acc′ : ℕ} → f i ≡ false → acc′ ≡ acc → Packing f n (i + 1) acc′
+    packing-pass p z = record { within = omega arith; is = z ∙ k .is ∙ pack-without f i p }

@@ -3,10 +3,10 @@ use Prim.Native.Nat.{ℕ, zero, suc, _+_, _-_, _*_, _/_, _%_, _^_, _≤_, _<_, m
 use mathlib.Core.Path.{_≡_, refl, sym, ap, ap₂, _∙_}
 use mathlib.Core.Bool.{Bool, true, false, not}
 use native.Mathlib.Nat.{le-of-suc-le-suc, not-suc-le-zero, mod-lt, mod-one, mul-add-mod-self-right, mod-eq-of-lt, zero-div, pow-suc, lt-of-le-of-lt, lt-of-lt-of-le, div-eq-of-lt}
-use native.Mathlib.Numerals.{one-add}
+use native.Mathlib.Numerals.{one-add, add-one}
 use native.Mathlib.Omega.{arith}
 use lib.Dec.{eqb}
-use lib.Bits.{bitAnd, bitOr, and-shr, or-shr, and-step, or-step, and-le-l, or-lt}
+use lib.Bits.{bitAnd, bitOr, and-shr, or-shr, and-step, or-step, and-le-l, or-lt, or-shifted-r}
 use lib.Pow.{pow-pos, pow-mono, mod-mod-pow, field, low, high, mod-pow-add, pow-lt, shl-exact}
 use borrow.Author.Tests.{eq-eqb, ne-eqb, eqb-true}
 use Rattle.bits.specs.Words.{_and_, _or_, has, bit, pack, _with_}
@@ -244,6 +244,26 @@ with-is w i h l =
     ∙ ap (λ (b : Bool). has w j or b) (has-pow i j l k)
     ∙ or-comm (has w j) (eqb j i)
     ∙ sym (has-with w i j k))
+
+-- the word of a predicate with one number more
+module _ (f : ℕ → Bool) (n : ℕ) where
+  one-more : {b : Bool} → f n ≡ b → pack (n + 1) f ≡ bit b * 2 ^ n + pack n f
+  unfolding pack
+  one-more p = ap (λ (k : ℕ). pack k f) (add-one n) ∙ ap (λ (c : Bool). bit c * 2 ^ n + pack n f) p
+
+  pub pack-with : n < 64 → f n ≡ true → pack n f with n ≡ pack (n + 1) f
+  unfolding bit
+  pack-with h p =
+      let l : n ≤ 64 = omega arith in
+      let e : 2 ^ n ≡ 1 * 2 ^ n = omega arith in
+      sym (with-is (pack n f) n (lt-of-lt-of-le (pack-lt f n) (pow-mono l)) h)
+      ∙ ap (bitOr (pack n f)) e
+      ∙ or-shifted-r 1 n (pack n f) (pack-lt f n)
+      ∙ sym (one-more p)
+
+  pub pack-without : f n ≡ false → pack n f ≡ pack (n + 1) f
+  unfolding bit
+  pack-without p = let e : pack n f ≡ 0 * 2 ^ n + pack n f = omega arith in e ∙ sym (one-more p)
 
 pub without-is : (w i : ℕ) → w < 2 ^ 64 → i < 64 → bitAnd w (2 ^ 64 - 1 - 2 ^ i) ≡ w without i
 without-is w i h l =

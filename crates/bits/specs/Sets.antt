@@ -1,5 +1,5 @@
--- What holds of some number or of some member of a word, and more words that are made of words.
-use Rattle.bits.specs.Words.{ℕ, zero, suc, _-_, _≤_, _<_, _≡_, Bool, true, false, not, eqb, _and_, _or_, if_then_else_, has, pack}
+-- What holds of some number, of each or of some member of a word, and more words that are made of words.
+use Rattle.bits.specs.Words.{ℕ, zero, suc, _-_, _≤_, _<_, _≡_, Bool, true, false, not, eqb, _and_, _or_, _implies_, if_then_else_, has, all, pack}
 
 infixl 55 _without_
 -- f holds of some number below n: asked from 0 up, and no further than the first of which it does
@@ -8,6 +8,12 @@ any zero f = false
 any (suc n) f =
     let last = f n in
     any n f or last
+
+-- f holds of every member of w; an empty word is not gone through
+unfoldable pub each : ℕ → (ℕ → Bool) → Bool
+each w f =
+    let members = all 64 (λ i. let r = f i in has w i implies r) in
+    eqb w 0 or members
 
 -- f holds of some member of w; an empty word is not gone through
 unfoldable pub some : ℕ → (ℕ → Bool) → Bool

@@ -43,15 +43,9 @@ all (suc n) f =
     let last = f n in
     all n f and last
 
--- f holds of every member of w; an empty word is not gone through
-unfoldable pub each : ℕ → (ℕ → Bool) → Bool
-each w f =
-    let members = all 64 (λ i. let r = f i in has w i implies r) in
-    eqb w 0 or members
-
 -- every member of a is one of b
 unfoldable pub subset : ℕ → ℕ → Bool
-subset a b = each a (has b)
+subset a b = all 64 (λ i. has a i implies has b i)
 
 -- 1 for true, 0 for false
 unfoldable pub bit : Bool → ℕ

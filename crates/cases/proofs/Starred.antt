@@ -4,8 +4,8 @@ use Prim.Native.Nat.{ℕ}
 use mathlib.Core.Path.{_≡_, refl, sym, ap, subst, _∙_}
 use mathlib.Core.Bool.{true}
 use mathlib.Core.List.{List, [], _∷_}
-use Rattle.bits.specs.Words.{_and_, _or_, _implies_, if_then_else_, upd, has, all, each, subset, bit, pack, _with_}
-use Rattle.bits.specs.Sets.{any, some, overlap, _without_, join}
+use Rattle.bits.specs.Words.{_and_, _or_, _implies_, if_then_else_, upd, has, all, subset, bit, pack, _with_}
+use Rattle.bits.specs.Sets.{each, any, some, overlap, _without_, join}
 use Rattle.table.specs.State.{State}
 use Rattle.table.specs.Authority.{covers, authorised, mayActivate, effective}
 use Rattle.table.specs.Sound.{Sound}
@@ -22,8 +22,8 @@ use Rattle.setup.specs.Closure.{via, through, closure, acyclic}
 use Rattle.setup.specs.SetUp.{fresh, roleSetUp}
 use Rattle.setup.proofs.Claims.{set-up-sound}
 use Rattle.setup.proofs.SetUp.{set-up-accepted}
-use Rattle.machine.specs.Label.{class, brands, dominates}
-use Rattle.cases.specs.Cases.{Row, asked, holds, direct, permissions, starred, Met, StarredCases}
+use Rattle.machine.specs.Label.{class, brands, stands, equalOrAbove}
+use Rattle.cases.specs.Cases.{Row, asked, compared, holds, direct, permissions, starred, Met, StarredCases}
 
 -- ---- the set-up, worked out
 
@@ -44,6 +44,7 @@ no-cycle = refl
 abbrev Shows : State → List Row → Type 0
 Shows S [] = Unit
 Shows S (asked q n ∷ rest) = (move S q .answer ≡ n) × Shows (move S q .next) rest
+Shows S (compared a b w ∷ rest) = (stands a b ≡ w) × Shows S rest
 Shows S (holds b ∷ rest) = (b ≡ true) × Shows S rest
 
 shows-met : (rest : List Row) (S : State) → Sound S → Shows S rest → Met (encode S) rest
@@ -51,10 +52,11 @@ shows-met [] S f h = h
 shows-met (asked q n ∷ rest) S f h =
     let v = moved S f q in
     (v .answer ∙ h .0, subst (λ (t : List ℕ). Met t rest) (sym (v .table)) (shows-met rest (move S q .next) (v .is-sound) (h .1)))
+shows-met (compared a b w ∷ rest) S f h = (h .0, shows-met rest S f (h .1))
 shows-met (holds b ∷ rest) S f h = (h .0, shows-met rest S f (h .1))
 
 shown : Shows (fresh rows permissions) starred
-unfolding starred permissions fresh move stay isCode limits inRange within decode known changed allowedSound openingsFit sessionsFit pairFits covers authorised mayActivate effective upd has all any each some subset overlap bit pack _with_ _without_ if_then_else_ _and_ _or_ _implies_ class brands dominates
+unfolding starred permissions fresh move stay isCode limits inRange within decode known changed allowedSound openingsFit sessionsFit pairFits covers authorised mayActivate effective upd has all any each some subset overlap bit pack _with_ _without_ if_then_else_ _and_ _or_ _implies_ class brands stands equalOrAbove
 shown = (refl, (refl, (refl, (refl, (refl, (refl, (refl, (refl, (refl, (refl, (refl, (refl, (refl, (refl, (refl, (refl, (refl, (refl, (refl, (refl, (refl, (refl, (refl, (refl, tt))))))))))))))))))))))))
 
 -- ---- on the table after the set-up

@@ -1,14 +1,17 @@
 -- The starred bench cases of 01, A to I, as a single table, and the claim that every row of it is met in sequence.
-use Rattle.bits.specs.Words.{ℕ, _≡_, Bool, true, not, List, [], _∷_, eqb, leb, length, _implies_, if_then_else_, all}
+use Rattle.bits.specs.Words.{ℕ, _≡_, Bool, true, List, [], _∷_, eqb, leb, length, _implies_, if_then_else_, all}
 use Rattle.table.specs.Table.{tableLength, tabulate}
 use Rattle.roles.specs.Request.{Ask, ask}
 use Rattle.roles.specs.Guard.{roleStep}
 use Rattle.setup.specs.SetUp.{roleSetUp}
-use Rattle.machine.specs.Label.{dominates}
+use Rattle.machine.specs.declared.Standing.{Standing}
+use Rattle.machine.specs.declared.Standing.the-variants.{Equal, Above, Apart}
+use Rattle.machine.specs.Label.{stands, equalOrAbove}
 
--- a request with its answer, or a comparison of labels that holds
+-- a request with its answer, two labels and how they stand, or what holds of many
 pub data Row : Type 0 where
   asked : Ask → ℕ → Row
+  compared : ℕ → ℕ → Standing → Row
   holds : Bool → Row
 
 -- role 5 above 3, 3 above 1; only (0, 9) a permission
@@ -48,11 +51,11 @@ starred =
     ∷ asked (ask 2 5 9 0) 1
     ∷ asked (ask 1 5 9 0) 0
     -- I
-    ∷ holds (not (dominates 17 18))
-    ∷ holds (not (dominates 18 17))
-    ∷ holds (all 32 (λ a. dominates 31 a))
-    ∷ holds (all 32 (λ a. dominates 0 a implies eqb a 0))
-    ∷ holds (dominates 0 0)
+    ∷ compared 17 18 Apart
+    ∷ compared 18 17 Apart
+    ∷ holds (all 32 (λ a. equalOrAbove (stands 31 a)))
+    ∷ holds (all 32 (λ a. equalOrAbove (stands 0 a) implies eqb a 0))
+    ∷ compared 0 0 Equal
     ∷ []
 
 -- 01: a role request answered yes or no spends 1, a refusal 0
@@ -63,6 +66,7 @@ spentOn answer = if leb answer 1 then 1 else 0
 abbrev pub Met : List ℕ → List Row → Type 0
 Met t [] = Unit
 Met t (asked q n ∷ rows) = (roleStep t q .answer ≡ n) × Met (roleStep t q .state) rows
+Met t (compared a b w ∷ rows) = (stands a b ≡ w) × Met t rows
 Met t (holds b ∷ rows) = (b ≡ true) × Met t rows
 
 -- on every table, whatever it held before the set-up

@@ -1,6 +1,6 @@
 // Runs the bench cases of the scope and the vectors of the sources through the compiled guard, and writes a row for each: its
 // number, its answer, and what it spent. Rows from 101: A to H and J; from 201: vector A of source 000; from 301: the scope's
-// label listing, and label 32; from 401: labels that are easily confused; from 501: dominance; from 601: wrong lengths and
+// label listing, and label 32; from 401: labels that are easily confused; from 501: how labels stand; from 601: wrong lengths and
 // values; from 701: starts with roles chosen.
 ghost use mathlib.Core.Path.{_≡_};
 ghost use Prim.Native.Nat.{_≤_};
@@ -333,6 +333,40 @@ const LISTING: [u64; 40] = [
 // A session at level 9 beside labels 9 and 10.
 const CONFUSED: [u64; 16] = [3, 0, 0, 9, 1, 0, 1, 0, 1, 0, 2, 1, 1, 0, 1, 1];
 
+// Pairs of labels, the first beside the second.
+const PAIRS: [u64; 30] = [
+    9,
+    10,
+    10,
+    9,
+    10,
+    1,
+    1,
+    10,
+    9,
+    1,
+    17,
+    18,
+    18,
+    17,
+    31,
+    0,
+    0,
+    31,
+    0,
+    0,
+    1,
+    9,
+    8,
+    7,
+    7,
+    8,
+    15,
+    7,
+    20,
+    20,
+];
+
 // Role requests: user 2 is assigned role 3, and starts are asked for with roles authorised for it and others.
 const CHOSEN: [u64; 64] = [
     7,
@@ -459,13 +493,21 @@ fn play_labels(table: &mut [u64], words: &[u64], first: u64) -> bool
     true
 }
 
-// Compares two labels.
-fn compare(number: u64, a: u64, b: u64) -> bool {
-    let high = Label { number: a };
-    if high.dominates(Label { number: b }) {
-        return show(number, 1, 0);
+// How the labels of each pair stand, by number.
+fn play_pairs(words: &[u64], first: u64) -> bool
+    requires { ⌜ (first ≤ 1000) × (length (now words) ≤ 1000) ⌝ }
+{
+    for i in 0..words.len() / 2 {
+        let at = 2 * i;
+        let label = Label { number: words[at] };
+        let standing = label.compare(Label {
+            number: words[at + 1],
+        });
+        if !show(first + i as u64, standing.number(), 0) {
+            return false;
+        }
     }
-    show(number, 0, 0)
+    true
 }
 
 // Role requests after a set-up with role 5 above 3, 3 above 1, and only (0, 9) a permission.
@@ -531,38 +573,6 @@ fn confused_cases() -> bool {
     play_labels(&mut table, &CONFUSED, 401)
 }
 
-// Pairs of labels.
-fn dominance_cases() -> bool {
-    if !compare(501, 9, 10) {
-        return false;
-    }
-    if !compare(502, 10, 9) {
-        return false;
-    }
-    if !compare(503, 10, 1) {
-        return false;
-    }
-    if !compare(504, 1, 10) {
-        return false;
-    }
-    if !compare(505, 9, 1) {
-        return false;
-    }
-    if !compare(506, 17, 18) {
-        return false;
-    }
-    if !compare(507, 18, 17) {
-        return false;
-    }
-    if !compare(508, 31, 0) {
-        return false;
-    }
-    if !compare(509, 0, 31) {
-        return false;
-    }
-    compare(510, 0, 0)
-}
-
 // Tables of 967 and 969 words, and label 32 in a set-up.
 fn refused_cases() -> bool {
     let mut short = [0u64; WORDS - 1];
@@ -607,7 +617,7 @@ fn main() {
     if !confused_cases() {
         return;
     }
-    if !dominance_cases() {
+    if !play_pairs(&PAIRS, 501) {
         return;
     }
     if !refused_cases() {

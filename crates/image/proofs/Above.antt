@@ -2,14 +2,13 @@
 -- nothing.
 use Prim.Native.Nat.{ℕ, _-_, _≤_, _<_}
 use mathlib.Core.Path.{_≡_, sym, _∙_}
-use mathlib.Core.Bool.{true}
+use mathlib.Core.Bool.{true, false}
 use native.Mathlib.Omega.{arith}
 use lib.Dec.{ltb, leb}
-use borrow.Author.Tests.{ltb-true, ltb-false, leb-true, lt-ltb, le-ltb, le-leb}
+use borrow.Author.Tests.{ltb-true, ltb-false, leb-true, lt-ltb, le-ltb, le-leb, lt-leb}
 use Rattle.bits.specs.Words.{_and_}
-use Rattle.bits.proofs.Truth.{by-truth, and-intro, and-left, and-right, if-true, if-false}
-use Rattle.machine.specs.Label.{dominates}
-use Rattle.machine.proofs.Order.{dominates-refl, dominates-trans, dominates-antisym}
+use Rattle.bits.proofs.Truth.{by-truth, and-intro, and-left, and-right, true-and, false-and, if-true, if-false}
+use Rattle.machine.proofs.Order.{dominates, dominates-refl, dominates-trans, dominates-antisym}
 use Rattle.image.specs.Image.{above}
 
 -- role r is above role q: both read, or both write
@@ -49,3 +48,24 @@ over-antisym {r} {q} (reads l k h) (writes l′ k′ h′) = absurd (omega arith
 over-antisym {r} {q} (writes l k h) (reads l′ k′ h′) = absurd (omega arith)
 over-antisym {r} {q} (writes l k h) (writes l′ k′ h′) =
     let e : r - 32 ≡ q - 32 = dominates-antisym (r - 32) (q - 32) h′ h in omega arith
+
+-- ---- as the code finds it
+
+module _ {r q : ℕ} where
+  module _ (h : r < 32) where
+    pub above-reads : q < 32 → above r q ≡ dominates r q
+    unfolding above
+    above-reads k = if-true _ _ (lt-ltb r 32 h) ∙ true-and _ (lt-ltb q 32 k)
+
+    pub above-no-write : 32 ≤ q → above r q ≡ false
+    unfolding above
+    above-no-write k = if-true _ _ (lt-ltb r 32 h) ∙ false-and _ (le-ltb q 32 k)
+
+  module _ (h : 32 ≤ r) where
+    pub above-writes : 32 ≤ q → above r q ≡ dominates (q - 32) (r - 32)
+    unfolding above
+    above-writes k = if-false _ _ (le-ltb r 32 h) ∙ true-and _ (le-leb 32 q k)
+
+    pub above-no-read : q < 32 → above r q ≡ false
+    unfolding above
+    above-no-read k = if-false _ _ (le-ltb r 32 h) ∙ false-and _ (lt-leb 32 q k)

@@ -3,16 +3,16 @@ use Prim.Native.Nat.{ℕ, zero, suc, _+_, _-_, _^_, _≤_, _<_}
 use mathlib.Core.Path.{_≡_, sym, ap, subst, _∙_}
 use mathlib.Core.Bool.{true, false}
 use native.Mathlib.Omega.{arith}
-use Rattle.bits.specs.Words.{has, each, pack, _with_}
+use Rattle.bits.specs.Words.{has, pack, _with_}
+use Rattle.bits.specs.Sets.{each}
 use Rattle.bits.proofs.Truth.{clash, same-truth}
 use Rattle.bits.proofs.Word.{has-zero, has-pack, with-lt, with-elim, with-new, with-old}
 use Rattle.bits.proofs.Members.{each-intro, each-elim}
 use Rattle.table.specs.State.{State}
 use Rattle.table.specs.Authority.{senior, authorised}
 use Rattle.table.proofs.State.{authorised-intro, authorised-elim}
-use Rattle.machine.specs.Label.{dominates}
 use Rattle.machine.specs.Machine.{idle, at}
-use Rattle.machine.proofs.Order.{dominates-bottom}
+use Rattle.machine.proofs.Order.{dominates, dominates-bottom}
 use Rattle.image.specs.Image.{above, clearedRoles, seatRoles, grantedRoles}
 use Rattle.image.proofs.Above.{Over, reads, writes, over, over-above}
 

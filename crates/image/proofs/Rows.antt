@@ -3,10 +3,10 @@ use Prim.Native.Nat.{ℕ, _<_}
 use mathlib.Core.Path.{_≡_, refl, ap, _∙_}
 use mathlib.Core.List.{List, [], _∷_}
 use lib.ListN.{getD}
-use Rattle.bits.specs.Words.{_and_, _or_, _implies_, if_then_else_, has, all, each, subset, bit, pack}
+use Rattle.bits.specs.Words.{_and_, _implies_, if_then_else_, has, all, subset, bit, pack}
 use Rattle.table.specs.Table.{tabulate}
 use Rattle.table.proofs.Tabulate.{getD-tabulate}
-use Rattle.machine.specs.Label.{class, brands, dominates}
+use Rattle.machine.specs.Label.{class, brands, stands, equalOrAbove}
 use Rattle.image.specs.Image.{above, permittedObjects}
 
 abbrev pub rows : List ℕ
@@ -14,7 +14,7 @@ rows = 1 ∷ 3 ∷ 5 ∷ 15 ∷ 17 ∷ 51 ∷ 85 ∷ 255 ∷ 257 ∷ 771 ∷ 128
 
 -- worked out
 rows-are : rows ≡ tabulate 64 (λ r. pack 64 (above r))
-unfolding tabulate pack bit above if_then_else_ _and_ _or_ _implies_ dominates class brands subset each all has
+unfolding tabulate pack bit above if_then_else_ _and_ _implies_ stands equalOrAbove class brands subset all has
 rows-are = refl
 
 pub row-is : (r : ℕ) → r < 64 → getD rows r 0 ≡ pack 64 (above r)

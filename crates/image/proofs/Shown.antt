@@ -11,7 +11,7 @@ use Rattle.bits.proofs.Word.{has-pack, pack-none}
 use Rattle.table.specs.Authority.{senior, permission, idle, mayActivate, effective}
 use Rattle.table.specs.Sound.{Sound}
 use Rattle.table.proofs.State.{effective-intro, effective-elim, may-activate-user}
-use Rattle.machine.specs.Label.{dominates}
+use Rattle.machine.proofs.Order.{dominates}
 use Rattle.machine.specs.Machine as machine
 use Rattle.machine.specs.Machine.{Machine, Seat, at, mayOpen}
 use Rattle.image.specs.Image.{above, clearedRoles, seatRoles, seatOwner, grantedRoles, permittedObjects, shown}

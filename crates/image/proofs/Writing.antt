@@ -5,7 +5,7 @@ use mathlib.Core.List.{List}
 use native.Mathlib.Omega.{arith}
 use lib.Dec.{ltb}
 use lib.ListN.{length, getD}
-use Rattle.bits.specs.Words.{_with_}
+use Rattle.bits.specs.Words.{pack, _with_}
 use Rattle.bits.proofs.Truth.{and-false}
 use Rattle.bits.proofs.Word.{pack-none}
 use Rattle.table.specs.Answers.{overlay, clearedFrom}
@@ -14,10 +14,13 @@ use Rattle.table.proofs.Answers.{length-cleared, cleared-before, cleared-after,
 use Rattle.table.proofs.Encode as encode
 use Rattle.table.proofs.Tabulate.{length-tabulate, getD-tabulate}
 use Rattle.machine.specs.Machine.{begin}
-use Rattle.image.specs.Image.{clearedRoles, seatRoles, seatOwner, grantedRoles, shown, image}
-use Rattle.image.proofs.Rows.{rows, row-is, masks, mask-is}
+use Rattle.image.specs.Image.{above, clearedRoles, seatRoles, seatOwner, grantedRoles, shown, image}
+use Rattle.image.proofs.Rows.{masks, mask-is}
 
 module _ (t clearances labels : List ℕ) (whole : length t ≡ tableLength) where
+  abbrev seniority : List ℕ
+  seniority = tabulate 64 (λ r. pack 64 (above r))
+
   abbrev assigned : List ℕ
   assigned = tabulate 64 (λ u. clearedRoles (getD clearances u 0))
 
@@ -26,7 +29,7 @@ module _ (t clearances labels : List ℕ) (whole : length t ≡ tableLength) whe
 
   -- the table after each write
   abbrev t1 : List ℕ
-  t1 = overlay t 0 rows
+  t1 = overlay t 0 seniority
 
   abbrev t2 : List ℕ
   t2 = overlay t1 64 masks
@@ -44,7 +47,7 @@ module _ (t clearances labels : List ℕ) (whole : length t ≡ tableLength) whe
   t6 = clearedFrom t5 264
 
   long1 : length t1 ≡ tableLength
-  long1 = length-overlay t 0 rows ∙ whole
+  long1 = length-overlay t 0 seniority ∙ whole
 
   long2 : length t2 ≡ tableLength
   long2 = length-overlay t1 64 masks ∙ long1
@@ -103,7 +106,8 @@ module _ (t clearances labels : List ℕ) (whole : length t ≡ tableLength) whe
   unfolding shown begin seatOwner seatRoles
   written-image =
       encode.shown t6 (shown (begin clearances labels)) (length-cleared t5 264 ∙ long5) (record {
-        juniors = λ r h. before-64 r h ∙ put t whole 0 rows r r 64 (omega arith) refl h (omega arith) ∙ row-is r h;
+        juniors = λ r h.
+            before-64 r h ∙ put t whole 0 seniority r r 64 (omega arith) (length-tabulate 64 _) h (omega arith) ∙ getD-tabulate 64 _ 0 r h;
         permitted = λ x h. before-72 (64 + x) (omega arith) ∙ put t1 long1 64 masks x (64 + x) 8 refl refl h (omega arith) ∙ mask-is x h;
         assigned = λ u h.
             before-136 (72 + u) (omega arith)

@@ -3,7 +3,7 @@ use mathlib.Core.Logic.{_↔_}
 use Rattle.bits.specs.Words.{ℕ, _^_, _<_, _≡_, true, List, length}
 use Rattle.table.specs.Reading.{word, state}
 use Rattle.sound.specs.Answers.{isSound}
-use Rattle.machine.specs.Label.{dominates}
+use Rattle.machine.specs.Label.{stands, equalOrAbove}
 use Rattle.machine.specs.Machine.{Machine, at, mayOpen}
 use Rattle.image.specs.Image.{image}
 use Rattle.image.specs.Test.{isImage}
@@ -17,7 +17,7 @@ pub record Ranged (m : Machine) : Type 0 where
 
 -- its levels are cleared and its openings allowed
 pub record Safe (m : Machine) : Type 0 where
-  pub cleared : (s u y : ℕ) → s < 32 → m .seat s ≡ at u y → dominates (m .clearance u) y ≡ true
+  pub cleared : (s u y : ℕ) → s < 32 → m .seat s ≡ at u y → equalOrAbove (stands (m .clearance u) y) ≡ true
   pub openings : (s o x : ℕ) → s < 32 → o < 64 → x < 2 → m .held s o x ≡ true → mayOpen (m .seat s) (m .label o) x ≡ true
 
 -- Is the image of a machine state sound? Exactly when the state is safe.

@@ -2,12 +2,12 @@
 use Rattle.bits.specs.Words.{ℕ, zero, suc, _+_, _-_, Bool, List, leb, ltb, _and_, if_then_else_, pack, _with_}
 use Rattle.table.specs.State.{State}
 use Rattle.table.specs.Table.{encode}
-use Rattle.machine.specs.Label.{dominates}
+use Rattle.machine.specs.Label.{stands, equalOrAbove}
 use Rattle.machine.specs.Machine.{Machine, Seat, idle, at}
 
 -- role r is senior to role q or is q: a read role when its label dominates the other's, a write role the other way round
 unfoldable pub above : ℕ → ℕ → Bool
-above r q = if ltb r 32 then ltb q 32 and dominates r q else leb 32 q and dominates (q - 32) (r - 32)
+above r q = if ltb r 32 then ltb q 32 and equalOrAbove (stands r q) else leb 32 q and equalOrAbove (stands (q - 32) (r - 32))
 
 -- the roles of a user with clearance c, and of a session
 unfoldable pub clearedRoles : ℕ → ℕ

@@ -1,4 +1,6 @@
 // The image of a machine state: the test for it, and the label set-up.
+use machine::Label;
+use machine::Standing;
 use roles::Answer;
 use roles::Refusal;
 use table::layout::ACTIVE;
@@ -10,16 +12,18 @@ use table::layout::WORDS;
 ghost use mathlib.Core.Path.{_≡_};
 ghost use Prim.Native.Nat.{_+_, _≤_};
 ghost use lib.ListN.{length, getD};
-ghost use Rattle.bits.specs.Words.{_with_};
+ghost use Rattle.bits.specs.Words.{_with_, pack};
 ghost use Rattle.table.specs.Reading.{state};
 ghost use Rattle.table.specs.Table.{tableLength, tabulate};
 ghost use Rattle.roles.specs.Answer.{numberOf};
-ghost use Rattle.image.specs.Image.{image, clearedRoles, seatRoles};
+ghost use Rattle.machine.specs.Label.{stands};
+ghost use Rattle.image.specs.Image.{image, above, clearedRoles, seatRoles};
 ghost use Rattle.image.specs.Test.{seatOf, seniorityFits, permissionsFit, usersFit, objectsFit, levelsFit, IsLabel, showsImage};
 ghost use Rattle.machine.specs.Machine.{begin};
 ghost use Rattle.image.specs.SetUp.{areLabels, labelSetUp};
 
-// The juniors of each role, and the role: a read role has those whose label its own dominates, a write role the other way round.
+// The juniors of each role, and the role, as `junior_roles` works them out: written out for the test, which every label request
+// pays for.
 const JUNIORS: [u64; 64] = [
     0x1,
     0x3,
@@ -210,6 +214,55 @@ pub fn is_image(t: &[u64]) -> bool
     levels_fit(t)
 }
 
+// How the labels of two numbers stand.
+fn standing_of(a: usize, b: usize) -> Standing
+    ensures { λ r. ⌜ r ≡ stands a b ⌝ }
+{
+    let first = Label { number: a as u64 };
+    first.compare(Label { number: b as u64 })
+}
+
+// Whether role r is senior to role q or is q, by how their labels stand: read roles like the labels, write roles the other way
+// round, and a read role and a write role never.
+fn is_above(r: usize, q: usize) -> bool
+    ensures { λ b. ⌜ b ≡ above r q ⌝ }
+{
+    if r < 32 {
+        if 32 <= q {
+            return false;
+        }
+        return standing_of(r, q).equal_or_above();
+    }
+    if q < 32 {
+        return false;
+    }
+    standing_of(q - 32, r - 32).equal_or_above()
+}
+
+// The juniors of role r, and the role.
+fn junior_roles(r: usize) -> u64
+    ensures { λ w. ⌜ w ≡ pack 64 (above r) ⌝ }
+{
+    let mut found: u64 = 0;
+    for q in 0..64 {
+        if is_above(r, q) {
+            found = bits::with(found, q);
+        }
+    }
+    found
+}
+
+// The juniors of each of the 64 roles, and the role.
+fn seniority_words() -> [u64; 64]
+    ensures { λ w. ⌜ w ≡ tabulate 64 (λ r. pack 64 (above r)) ⌝ }
+{
+    let mut words = [0; 64];
+    for r in 0..64 {
+        words[r] = junior_roles(r);
+    }
+    words
+}
+
 // Whether the 64 values are labels.
 fn are_labels(values: &[u8]) -> bool
     requires { ⌜ length (now values) ≡ 64 ⌝ }
@@ -252,7 +305,7 @@ fn write_image(t: &mut [u64], clearances: &[u8], labels: &[u8])
     requires { ⌜ (length (now t) ≡ tableLength) × (length (now clearances) ≡ 64) × (length (now labels) ≡ 64) ⌝ }
     ensures { λ r. ⌜ now (t .exit) ≡ image (begin (now (clearances .entry)) (now (labels .entry))) ⌝ }
 {
-    table::overlay(t, 0, &JUNIORS);
+    table::overlay(t, 0, &seniority_words());
     table::overlay(t, PERMITTED, &PERMITTED_OBJECTS);
     table::overlay(t, ASSIGNED, &assigned_words(clearances));
     table::overlay(t, GRANTED, &granted_words(labels, 0));

@@ -12,7 +12,7 @@ use Rattle.roles.specs.Request.{Ask, ask, Outcome, refuse, decide}
 use Rattle.roles.proofs.Serving.{decide-yes, decide-no}
 use Rattle.roles.proofs.Codes.{within-elim}
 use Rattle.roles.proofs.Requests.{within-intro}
-use Rattle.machine.specs.Label.{dominates}
+use Rattle.machine.proofs.Order.{dominates}
 use Rattle.machine.specs.Machine.{Machine, idle, at, isIdle, mayOpen, fits, withSeat, withOpenings, withHeld, withClearance, Request, opening, closing, starting, ending, reclearing, isCode, limits, inRange, decode, allowed, next, figure, act, step}
 
 -- ---- codes and arguments

@@ -1,7 +1,7 @@
 -- The Bell-LaPadula machine of 01 ("Labels") and its five requests. Users and objects are 0 to 63, sessions and labels 0 to 31.
 use Rattle.bits.specs.Words.{ℕ, _-_, Bool, true, false, not, List, [], _∷_, eqb, leb, getD, _and_, _implies_, if_then_else_, upd, all}
 use Rattle.roles.specs.Request.{Ask, Outcome, refuse, decide, within}
-use Rattle.machine.specs.Label.{dominates}
+use Rattle.machine.specs.Label.{stands, equalOrAbove}
 
 -- a session is idle, or it has a user and a level
 pub data Seat : Type 0 where
@@ -49,18 +49,18 @@ isIdle (at u y) = false
 -- a session may open an object of label l: mode 0 reads what its level dominates, 1 writes what dominates it, without reading
 unfoldable pub mayOpen : Seat → ℕ → ℕ → Bool
 mayOpen idle l x = false
-mayOpen (at u y) l x = if eqb x 0 then dominates y l else dominates l y
+mayOpen (at u y) l x = if eqb x 0 then equalOrAbove (stands y l) else equalOrAbove (stands l y)
 
 -- c dominates the level of the session, if it is one of user u
 unfoldable pub fits : ℕ → ℕ → Seat → Bool
 fits u c idle = true
-fits u c (at v y) = eqb v u implies dominates c y
+fits u c (at v y) = eqb v u implies equalOrAbove (stands c y)
 
 -- the answer is yes
 unfoldable pub allowed : Machine → Request → Bool
 allowed m (opening s o x) = mayOpen (m .seat s) (m .label o) x
 allowed m (closing s o x) = true
-allowed m (starting s u y) = isIdle (m .seat s) and dominates (m .clearance u) y
+allowed m (starting s u y) = isIdle (m .seat s) and equalOrAbove (stands (m .clearance u) y)
 allowed m (ending s) = not (isIdle (m .seat s))
 allowed m (reclearing u c) = all 32 (λ s. fits u c (m .seat s))
 

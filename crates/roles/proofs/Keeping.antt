@@ -5,8 +5,8 @@ use mathlib.Core.Bool.{true}
 use native.Mathlib.Omega.{arith}
 use lib.Dec.{eqb}
 use borrow.Author.Tests.{ne-eqb}
-use Rattle.bits.specs.Words.{upd, has, each, _with_}
-use Rattle.bits.specs.Sets.{_without_}
+use Rattle.bits.specs.Words.{upd, has, _with_}
+use Rattle.bits.specs.Sets.{each, _without_}
 use Rattle.bits.proofs.Truth.{clash, and-left, and-right}
 use Rattle.bits.proofs.Word.{with-elim, with-old, without-old, without-none}
 use Rattle.bits.proofs.Members.{not-empty, each-elim}

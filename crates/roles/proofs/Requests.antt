@@ -8,8 +8,8 @@ use native.Mathlib.Omega.{arith}
 use native.Mathlib.Nat.{le-of-suc-le-suc}
 use lib.ListN.{getD}
 use borrow.Author.Tests.{le-leb}
-use Rattle.bits.specs.Words.{_and_, upd, each, _with_}
-use Rattle.bits.specs.Sets.{_without_}
+use Rattle.bits.specs.Words.{_and_, upd, _with_}
+use Rattle.bits.specs.Sets.{each, _without_}
 use Rattle.bits.proofs.Truth.{and-intro}
 use Rattle.table.specs.State.{State}
 use Rattle.table.specs.Authority.{idle, authorised, effective}

@@ -1,5 +1,6 @@
 -- The role guard on a lent table: refusals in 01's order, then yes or no.
-use Rattle.bits.specs.Words.{ℕ, Bool, true, not, List, leb, _and_, if_then_else_, each}
+use Rattle.bits.specs.Words.{ℕ, Bool, true, not, List, leb, _and_, if_then_else_}
+use Rattle.bits.specs.Sets.{each}
 use Rattle.table.specs.State.{State}
 use Rattle.table.specs.Authority.{idle, authorised, mayActivate, effective}
 use Rattle.table.specs.Sound.{sound}

@@ -1,6 +1,6 @@
 -- The ten role requests: the table of 01 ("Role requests"), a line for each; start with its roles chosen (02, S-1).
-use Rattle.bits.specs.Words.{ℕ, suc, _-_, Bool, true, not, List, [], _∷_, leb, getD, _and_, upd, each, _with_}
-use Rattle.bits.specs.Sets.{_without_}
+use Rattle.bits.specs.Words.{ℕ, suc, _-_, Bool, true, not, List, [], _∷_, leb, getD, _and_, upd, _with_}
+use Rattle.bits.specs.Sets.{each, _without_}
 use Rattle.table.specs.State.{State}
 use Rattle.table.specs.Authority.{permission, idle, authorised, mayActivate, effective}
 use Rattle.table.specs.Changes.{withAssigned, withGranted, withOwner, withActive, withHolds}

@@ -1,7 +1,7 @@
 -- The reflexive, transitive closure of 64 words of direct juniors, worked out by Warshall's way. What it is, the roles that
 -- a chain of links reaches, is `Reaches`; Claims says that the two are the same.
-use Rattle.bits.specs.Words.{ℕ, zero, suc, _<_, _≡_, Bool, true, List, eqb, getD, _implies_, if_then_else_, has, all, each, _with_}
-use Rattle.bits.specs.Sets.{join}
+use Rattle.bits.specs.Words.{ℕ, zero, suc, _<_, _≡_, Bool, true, List, eqb, getD, _implies_, if_then_else_, has, all, _with_}
+use Rattle.bits.specs.Sets.{each, join}
 use Rattle.table.specs.Table.{tabulate}
 
 -- every role that has k has what k has

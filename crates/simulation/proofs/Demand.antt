@@ -5,7 +5,7 @@ use mathlib.Core.Bool.{true}
 use mathlib.Core.List.{List}
 use lib.ListN.{getD}
 use Rattle.roles.specs.Request.{Ask, Outcome}
-use Rattle.machine.specs.Label.{dominates}
+use Rattle.machine.proofs.Order.{dominates}
 use Rattle.machine.specs.Machine.{Machine, step, begin}
 use Rattle.machine.specs.Wall.{Event, trace, final, Carried}
 use Rattle.machine.proofs.Tracing.{trace-same, final-same}

@@ -7,7 +7,7 @@ use Rattle.table.specs.Table.{tableLength, isTable, tabulate}
 use Rattle.table.proofs.Tabulate.{length-tabulate}
 use Rattle.table.proofs.Table.{is-table}
 use Rattle.sound.specs.Answers.{isSound}
-use Rattle.machine.specs.Label.{dominates}
+use Rattle.machine.proofs.Order.{dominates}
 use Rattle.machine.specs.Machine.{Machine, Seat, mayOpen, step, begin}
 use Rattle.machine.specs.Wall.{final}
 use Rattle.machine.proofs.Tracing.{final-keeps}

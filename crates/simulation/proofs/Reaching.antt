@@ -12,7 +12,7 @@ use Rattle.table.specs.Table.{tabulate}
 use Rattle.table.proofs.Agree.{by-upd, upd-same}
 use Rattle.table.proofs.Tabulate.{length-tabulate, getD-tabulate}
 use Rattle.roles.specs.Request.{ask, Outcome}
-use Rattle.machine.specs.Label.{dominates}
+use Rattle.machine.proofs.Order.{dominates}
 use Rattle.machine.specs.Machine.{Machine, Seat, idle, at, isIdle, mayOpen, withHeld, withSeat, step, begin}
 use Rattle.machine.proofs.Seats.{idle-at}
 use Rattle.machine.proofs.Steps.{opens, starts}

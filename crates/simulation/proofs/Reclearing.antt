@@ -6,8 +6,8 @@ use mathlib.Core.List.{List}
 use native.Mathlib.Omega.{arith}
 use lib.Dec.{eqb}
 use borrow.Author.Tests.{eq-eqb, ne-eqb, eqb-true, eqb-false}
-use Rattle.bits.specs.Words.{_implies_, if_then_else_, upd, has, all, each, _with_}
-use Rattle.bits.specs.Sets.{_without_}
+use Rattle.bits.specs.Words.{_implies_, if_then_else_, upd, has, all, _with_}
+use Rattle.bits.specs.Sets.{each, _without_}
 use Rattle.bits.proofs.Truth.{by-truth, same-truth, if-true, if-false, implies-intro, implies-elim}
 use Rattle.bits.proofs.Below.{all-intro, all-cong}
 use Rattle.bits.proofs.Members.{each-intro, each-elim}
@@ -24,7 +24,7 @@ use Rattle.roles.specs.Request.{ask, decide}
 use Rattle.roles.specs.Guard.{roleStep}
 use Rattle.roles.proofs.Requests.{next-sound, assign-is, deassign-is}
 use Rattle.roles.proofs.Serving.{decide-yes, decide-no}
-use Rattle.machine.specs.Label.{dominates}
+use Rattle.machine.proofs.Order.{dominates}
 use Rattle.machine.specs.Machine as machine
 use Rattle.machine.specs.Machine.{Machine, Seat, at, fits, withClearance, reclearing, act}
 use Rattle.machine.proofs.Seats.{same-user}

@@ -6,8 +6,8 @@ use mathlib.Core.List.{List}
 use lib.Dec.{eqb, ltb}
 use lib.ListN.{length}
 use borrow.Author.Tests.{eq-eqb, eqb-true, lt-ltb, le-ltb}
-use Rattle.bits.specs.Words.{_and_, _implies_, has, each, subset, pack}
-use Rattle.bits.specs.Sets.{overlap}
+use Rattle.bits.specs.Words.{_and_, _implies_, has, subset, pack}
+use Rattle.bits.specs.Sets.{each, overlap}
 use Rattle.bits.proofs.Truth.{clash, is-false, same-truth, and-intro, and-left, and-right, true-and, false-and, and-false, implies-intro, implies-elim}
 use Rattle.bits.proofs.Below.{all-intro, all-fails, all-cong}
 use Rattle.bits.proofs.Members.{each-intro, each-elim, each-cong, subset-intro, subset-elim, subset-pack}

@@ -1,6 +1,7 @@
 -- What the public functions answer, for a list of any length and any number: no, where the list is no table or there is no
 -- such session, user, mode or object. `isSound` is 01's soundness; the others are the part of it that one change can break.
-use Rattle.bits.specs.Words.{ℕ, suc, Bool, List, eqb, ltb, _and_, _implies_, has, all, each}
+use Rattle.bits.specs.Words.{ℕ, suc, Bool, List, eqb, ltb, _and_, _implies_, has, all}
+use Rattle.bits.specs.Sets.{each}
 use Rattle.table.specs.State.{State}
 use Rattle.table.specs.Authority.{authorised, effective}
 use Rattle.table.specs.Sound.{sound}

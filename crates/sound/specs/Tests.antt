@@ -1,7 +1,7 @@
 -- What the private functions that make up the soundness test answer, item by item. No promise rests on this page: the public
 -- test is held to `sound`, and that these items come to it is proved.
-use Rattle.bits.specs.Words.{ℕ, Bool, not, eqb, leb, _and_, _or_, all, each, subset}
-use Rattle.bits.specs.Sets.{overlap, _without_}
+use Rattle.bits.specs.Words.{ℕ, Bool, not, eqb, leb, _and_, _or_, all, subset}
+use Rattle.bits.specs.Sets.{each, overlap, _without_}
 use Rattle.table.specs.State.{State}
 use Rattle.table.specs.Authority.{senior, permission, mayActivate}
 

@@ -6,8 +6,8 @@ use mathlib.Core.List.{List, [], _∷_}
 use lib.Dec.{leb, ltb}
 use lib.ListN.{length, getD}
 use borrow.Author.Tests.{leb-true, le-leb, lt-leb, ltb-true, lt-ltb}
-use Rattle.bits.specs.Words.{_and_, if_then_else_, has, each, subset, pack}
-use Rattle.bits.specs.Sets.{overlap}
+use Rattle.bits.specs.Words.{_and_, if_then_else_, has, subset, pack}
+use Rattle.bits.specs.Sets.{each, overlap}
 use Rattle.bits.proofs.Truth.{clash, is-false, and-intro, and-left, and-right, true-and, false-and, and-false, if-true, if-false}
 use Rattle.bits.proofs.Word.{has-zero, pack-cong, pack-none}
 use Rattle.bits.proofs.Members.{subset-pack, overlap-elim}

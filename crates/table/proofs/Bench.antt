@@ -4,8 +4,8 @@ use mathlib.Core.Path.{_≡_, refl}
 use mathlib.Core.Bool.{true}
 use mathlib.Core.List.{List}
 use lib.Dec.{eqb}
-use Rattle.bits.specs.Words.{_and_, _or_, _implies_, if_then_else_, has, all, each}
-use Rattle.bits.specs.Sets.{any, some}
+use Rattle.bits.specs.Words.{_and_, _or_, _implies_, if_then_else_, has, all}
+use Rattle.bits.specs.Sets.{each, any, some}
 use Rattle.table.specs.Authority.{covers, authorised, mayActivate, effective}
 use Rattle.table.specs.Sound.{reflexive, transitive, antisymmetric, grantsPermitted, ownersKnown, idleEmpty, activeAuthorised, openingsEffective, sound}
 use Rattle.table.specs.Reading.{state}

@@ -1,6 +1,7 @@
 -- Soundness of a state: a definition for each clause of 01, in its words, and the clauses together. `Sound` says the same
 -- as plain facts.
-use Rattle.bits.specs.Words.{ℕ, _≤_, _<_, _≡_, Bool, true, eqb, leb, _and_, _implies_, has, all, each}
+use Rattle.bits.specs.Words.{ℕ, _≤_, _<_, _≡_, Bool, true, eqb, leb, _and_, _implies_, has, all}
+use Rattle.bits.specs.Sets.{each}
 use Rattle.table.specs.State.{State}
 use Rattle.table.specs.Authority.{senior, permission, idle, mayActivate, effective}
 

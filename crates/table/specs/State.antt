@@ -2,17 +2,10 @@
 use Rattle.bits.specs.Words.{ℕ}
 
 pub record State : Type 0 where
-  -- of role r: the roles that r is senior to, and r
-  pub juniors : ℕ → ℕ
-  -- of mode x: the objects o for which (x, o) is a permission
-  pub permitted : ℕ → ℕ
-  -- of user u: the roles assigned to u
-  pub assigned : ℕ → ℕ
-  -- of mode x and object o: the roles granted (x, o)
-  pub granted : ℕ → ℕ → ℕ
-  -- of session s: 0 when s is idle, else its user plus 1
-  pub owner : ℕ → ℕ
-  -- of session s: its active roles
-  pub active : ℕ → ℕ
-  -- of session s and mode x: the objects that s holds open in mode x
-  pub holds : ℕ → ℕ → ℕ
+  pub juniors : ℕ → ℕ  -- of role r: the roles that r is senior to, and r
+  pub permitted : ℕ → ℕ  -- of mode x: the objects o for which (x, o) is a permission
+  pub assigned : ℕ → ℕ  -- of user u: the roles assigned to u
+  pub granted : ℕ → ℕ → ℕ  -- of mode x and object o: the roles granted (x, o)
+  pub owner : ℕ → ℕ  -- of session s: 0 when s is idle, else its user plus 1
+  pub active : ℕ → ℕ  -- of session s: its active roles
+  pub holds : ℕ → ℕ → ℕ  -- of session s and mode x: the objects that s holds open in mode x

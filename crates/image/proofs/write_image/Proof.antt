@@ -20,7 +20,8 @@ returns c =
     let assigned = third .before .before in
     let second = assigned .before .before .before .before in
     let first = second .before .before .before .before .before in
-    let start = first .before .before .before .before .before .before in
+    let seniors = first .before .before in
+    let start = seniors .before .before .before .before .before in
     let a = start .args in
     cleared .clear-from .ensures
     ∙ ap (λ (l : List ℕ). clearedFrom l 264)
@@ -30,7 +31,8 @@ returns c =
     ∙ ap₂ (λ (l v : List ℕ). overlay l 136 v)
     (third .overlay3 .ensures
     ∙ ap₂ (λ (l v : List ℕ). overlay l 72 v)
-    (second .overlay2 .ensures ∙ ap (λ (l : List ℕ). overlay l 64 masks) (first .overlay .ensures))
+    (second .overlay2 .ensures
+    ∙ ap (λ (l : List ℕ). overlay l 64 masks) (first .overlay .ensures ∙ ap (overlay _ 0) (seniors .seniority-words .ensures)))
     (assigned .assigned-words .ensures))
     (readers .granted-words .ensures))
     (writers .granted-words2 .ensures))
@@ -40,6 +42,7 @@ pub write-image-spec : {M : Type 1} → statement M
 write-image-spec =
     tie.close
     (tie.spec
+    (λ c κs. search needs)
     (λ c. search needs)
     (λ c κs. search needs)
     (λ c. search needs)

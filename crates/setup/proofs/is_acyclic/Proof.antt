@@ -5,7 +5,8 @@ use mathlib.Core.Path.{_≡_, sym}
 use mathlib.Core.Bool.{true}
 use lib.Dec.{eqb}
 use lib.ListN.{getD}
-use Rattle.bits.specs.Words.{_implies_, has, each}
+use Rattle.bits.specs.Words.{_implies_, has}
+use Rattle.bits.specs.Sets.{each}
 use Rattle.bits.proofs.Truth.{confirmed, refuted}
 use Rattle.bits.proofs.Below.{all-intro, all-fails, Passed, passed-none, passed-more, passed-all}
 use Rattle.setup.specs.Closure.{acyclic}

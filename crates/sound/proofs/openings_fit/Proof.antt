@@ -3,7 +3,7 @@ use borrow.Author.Needs.{needs}
 use Prim.Native.Nat.{_-_, suc-le-suc}
 use mathlib.Core.Path.{_≡_, sym, _∙_}
 use mathlib.Core.Bool.{true}
-use Rattle.bits.specs.Words.{each}
+use Rattle.bits.specs.Sets.{each}
 use Rattle.bits.proofs.Truth.{confirmed, refuted, and-intro, false-and, and-false}
 use Rattle.bits.proofs.Below.{widen, Passed, passed-none, passed-more, passed-all}
 use Rattle.table.specs.Authority.{effective}
