@@ -4,16 +4,18 @@
  * Link with libsheetguard.a, which `rt staticlib sheetguard` writes to target/staticlib (x86-64 Linux).
  *
  * The guard keeps nothing. The caller lends it a table of SHEETGUARD_WORDS words at each call and stores the table as it
- * likes. A programmer who has to store, restore or migrate one finds in docs/TABLE.md the layout of the words, what sound
- * means, which fault gets which refusal, and byte order. Every function returns, whatever the words and numbers are, and
- * answers with a number:
+ * likes; sheetguard_compare_labels alone takes none. A programmer who has to store, restore or migrate one finds in
+ * docs/TABLE.md the layout of the words, what sound means, which fault gets which refusal, and byte order. Every function
+ * returns, whatever the words and numbers are, and answers with a number:
  *
  *     SHEETGUARD_YES, SHEETGUARD_NO, or a refusal, 12 to 20, the first that fits in the order of the numbers (of two
- *     tables, the first table's before the second's).
+ *     tables, the first table's before the second's). In place of yes and no sheetguard_compare_labels answers
+ *     SHEETGUARD_EQUAL, SHEETGUARD_ABOVE, SHEETGUARD_BELOW or SHEETGUARD_APART.
  *
  * A no and a refusal leave all that is lent unchanged, but for *spent, which every label request writes: 0 at a refusal.
- * Four functions change the table, and at a yes alone: the two set-ups and the two requests. A request may write a word
- * and put it back before it answers no, so that its table has to be writable memory. The other three only read it.
+ * Of the seven functions that take a table four change it, and at a yes alone: the two set-ups and the two requests. A
+ * request may write a word and put it back before it answers no, so that its table has to be writable memory. The other
+ * three only read it.
  *
  * What a caller owes:
  *   - a pointer is never NULL, also where its length is 0, and is aligned for its type;
@@ -38,7 +40,7 @@ extern "C" {
 /* The number of words of a table. */
 #define SHEETGUARD_WORDS 968
 
-/* The answers. */
+/* The answers, but for the four of sheetguard_compare_labels. */
 enum {
     SHEETGUARD_NO = 0,
     SHEETGUARD_YES = 1,
@@ -51,6 +53,14 @@ enum {
     SHEETGUARD_BAD_LIST_LENGTH = 18, /* a set-up list has not its length */
     SHEETGUARD_BAD_VALUE = 19,       /* a label in a set-up list is over 31 */
     SHEETGUARD_CYCLE = 20            /* direct juniors lead from a role through another back to it */
+};
+
+/* How the first label stands to the second; what dominates means is said at the codes of label requests. */
+enum {
+    SHEETGUARD_EQUAL = 0, /* they are the same label */
+    SHEETGUARD_ABOVE = 1, /* the first dominates the second, and they differ */
+    SHEETGUARD_BELOW = 2, /* the second dominates the first, and they differ */
+    SHEETGUARD_APART = 3  /* neither dominates the other */
 };
 
 /* Codes of role requests, with their arguments a, b, c; an argument that is not listed is 0. */
@@ -72,8 +82,9 @@ enum {
  * Codes of label requests. Mode 0 reads, mode 1 writes without reading; there is no other.
  *
  * A label is class * 8 + brand set: a class 0 to 3, and a set of three brands, worth 1, 2 and 4. Label a dominates b when
- * a's class is at least b's and a's set holds all of b's: 25 (class 3, brand 1) dominates 9 (class 1, brand 1); 17 and 18
- * (class 2, brands 1 and 2) are apart. Each label dominates itself and those to the right of it in its line:
+ * a's class is at least b's and a's set holds all of b's. So the first of two labels is equal to the second, above it,
+ * below it or apart from it: 25 (class 3, brand 1) is above 9 (class 1, brand 1), and 9 below 25; 17 (class 2, brand 1)
+ * and 18 (class 2, brand 2) are apart. Each label dominates itself and those to the right of it in its line:
  *
  *     31 -- 27 -- 17 --  9 -- 0     31: class 3, all brands; 27: class 3, brands 1 and 2; 0: class 0, no brand
  *     31 -- 27 -- 18 -- 10 -- 0     17 and 9 are apart from 18 and 10
@@ -132,6 +143,13 @@ uint64_t sheetguard_label_setup(uint64_t *table, size_t words,
 uint64_t sheetguard_label_request(uint64_t *table, size_t words,
                                   uint64_t code, uint64_t a, uint64_t b, uint64_t c,
                                   uint64_t *spent);
+
+/*
+ * No table.
+ * How the first label stands to the second. Answers EQUAL, ABOVE, BELOW or APART, or refusal 16, which is no standing,
+ * where a number is over 31. The answer is not to be read as YES or NO, which have the numbers of ABOVE and EQUAL.
+ */
+uint64_t sheetguard_compare_labels(uint64_t first, uint64_t second);
 
 /*
  * Table: only read. masks: written at YES.

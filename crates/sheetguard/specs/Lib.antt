@@ -1,2 +1,3 @@
 -- The crate's definitions, in reading order.
 pub mod Reading
+pub mod Comparing

@@ -1,4 +1,5 @@
 // The guard for programs in C and Rust: each function under its plain name, with the same equations.
+use machine::Label;
 use roles::Answer;
 use roles::Refusal;
 use table::layout::WORDS;
@@ -13,6 +14,7 @@ ghost use Rattle.alike.specs.Likeness.{likeness};
 ghost use Rattle.image.specs.SetUp.{labelSetUp};
 ghost use Rattle.labels.specs.Guard.{labelStep};
 ghost use Rattle.sheetguard.specs.Reading.{readable, readPermissions, readRoles};
+ghost use Rattle.sheetguard.specs.Comparing.{compareLabels};
 
 // The role set-up: 64 words of direct juniors, 8 of permissions.
 #[no_mangle]
@@ -77,6 +79,28 @@ pub extern "C" fn sheetguard_label_request(
     *spent = r.spent;
     let answer = r.answer;
     roles::number(answer)
+}
+
+// Whether both numbers are labels.
+fn are_labels(first: u64, second: u64) -> bool
+    ensures { λ r. ⌜ r ≡ (ltb first 32 and ltb second 32) ⌝ }
+{
+    if 32 <= first {
+        return false;
+    }
+    second < 32
+}
+
+// How two labels stand, by number, or refusal 16 where one of the numbers is no label.
+#[no_mangle]
+pub extern "C" fn sheetguard_compare_labels(first: u64, second: u64) -> u64
+    ensures { λ n. ⌜ n ≡ compareLabels first second ⌝ }
+{
+    if !are_labels(first, second) {
+        return roles::number(Answer::Refused(Refusal::BadArgument));
+    }
+    let label = Label { number: first };
+    label.compare(Label { number: second }).number()
 }
 
 // Whether there is a user or session i below a limit, and as many words are lent as are to be written.
