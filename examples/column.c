@@ -1,6 +1,6 @@
 /*
- * A label table: a tablet at level 17 opens one column of a sheet and is refused another. Prints each answer, and stops
- * where it is not the one that is expected.
+ * A label table: a tablet at level 17 opens one column of a sheet and is refused another, for the way the labels stand.
+ * Prints each answer, and stops where it is not the one that is expected.
  *
  *     cc -Iinclude examples/column.c target/staticlib/libsheetguard.a -o column && ./column
  */
@@ -17,8 +17,19 @@ static void ask(const char *what, uint64_t code, uint64_t a, uint64_t b, uint64_
     uint64_t spent;
     uint64_t answer = sheetguard_label_request(table, SHEETGUARD_WORDS, code, a, b, c, &spent);
 
-    printf("%-44s %s (%d)\n", what, answer == SHEETGUARD_YES ? "yes" : answer == SHEETGUARD_NO ? "no" : "refused",
+    printf("%-48s %s (%d)\n", what, answer == SHEETGUARD_YES ? "yes" : answer == SHEETGUARD_NO ? "no" : "refused",
            (int)answer);
+    if (answer != expected)
+        exit(EXIT_FAILURE);
+}
+
+/* The same for how the first label stands to the second. */
+static void compare(const char *what, uint64_t first, uint64_t second, uint64_t expected)
+{
+    static const char *const words[] = {"equal", "above", "below", "apart"};
+    uint64_t answer = sheetguard_compare_labels(first, second);
+
+    printf("%-48s %s (%d)\n", what, answer <= SHEETGUARD_APART ? words[answer] : "refused", (int)answer);
     if (answer != expected)
         exit(EXIT_FAILURE);
 }
@@ -38,7 +49,9 @@ int main(void)
     ask("session 2 reads column 7, label 9", SHEETGUARD_LABEL_OPEN, 2, 7, 0, SHEETGUARD_YES);
     ask("session 2 writes column 7: that is down", SHEETGUARD_LABEL_OPEN, 2, 7, 1, SHEETGUARD_NO);
     ask("session 2 reads column 8, label 25: that is up", SHEETGUARD_LABEL_OPEN, 2, 8, 0, SHEETGUARD_NO);
+    compare("    level 17 beside label 25", 17, 25, SHEETGUARD_BELOW);
     ask("session 2 writes column 8", SHEETGUARD_LABEL_OPEN, 2, 8, 1, SHEETGUARD_YES);
     ask("session 32 ends: there is none", SHEETGUARD_LABEL_END, 32, 0, 0, SHEETGUARD_BAD_ARGUMENT);
+    compare("label 32 beside label 25: there is none", 32, 25, SHEETGUARD_BAD_ARGUMENT);
     return EXIT_SUCCESS;
 }
