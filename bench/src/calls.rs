@@ -82,6 +82,10 @@ pub fn rows() -> Vec<Call> {
     });
     let chain = tables::chain();
     let set_up: Ask = Box::new(move |guard, table| (guard.role_setup)(table, &chain, &[u64::MAX; 8]));
+    let [clearances, labels] = tables::label_lists();
+    let label_set_up: Ask = Box::new(move |guard, table| (guard.label_setup)(table, &clearances, &labels));
+    let comparison: Ask =
+        Box::new(|guard, _| (0..32 * 32).map(|pair| (guard.compare_labels)(pair / 32, pair % 32)).sum());
     let same = tables::plant();
     let likeness: Ask = Box::new(move |guard, table| (guard.alike)(table, &same));
     // session 16 is idle on both tables; user 1 of the plant has role 1, above the others; user 0 is cleared to 0
@@ -105,6 +109,10 @@ pub fn rows() -> Vec<Call> {
         label("label reclear", 5, 1, 2),
         Call::new("effective permissions", &tables::plant(), permissions),
         Call::new("role set-up, chain of 64", &tables::empty(), set_up),
+        // on the table that it writes: it changes nothing there, and nothing is put back inside the measured time
+        answered("label set-up", &tables::image(), label_set_up, 1),
+        // 32 pairs equal, 238 above, as many below and 516 apart: 238 * 1 + 238 * 2 + 516 * 3
+        answered("label comparison, 1,024 pairs", &tables::empty(), comparison, 2262),
         Call::new("likeness", &tables::plant(), likeness),
     ]
 }

@@ -67,12 +67,22 @@ pub fn plant() -> Vec<u64> {
     table
 }
 
-/// The image of a label set-up with 16 sessions at different levels that hold all they may of half of the objects.
-pub fn labels() -> Vec<u64> {
-    let clearances: Vec<u8> = (0..64).map(|user| user % 32).collect();
-    let labels: Vec<u8> = (0..64).map(|object| object * 5 % 32).collect();
+/// 64 clearances and 64 object labels, each of the 32 labels twice in either list.
+pub fn label_lists() -> [Vec<u8>; 2] {
+    [(0..64).map(|user| user % 32).collect(), (0..64).map(|object| object * 5 % 32).collect()]
+}
+
+/// The image of a label set-up.
+pub fn image() -> Vec<u64> {
+    let [clearances, labels] = label_lists();
     let mut table = vec![0; WORDS];
     assert_eq!((GUARD.label_setup)(&mut table, &clearances, &labels), 1);
+    table
+}
+
+/// The image of a label set-up with 16 sessions at different levels that hold all they may of half of the objects.
+pub fn labels() -> Vec<u64> {
+    let mut table = image();
     let mut spent = 0;
     for session in 0..16 {
         assert_eq!((GUARD.label_request)(&mut table, 3, session, 2 * session, 2 * session, &mut spent), 1);

@@ -7,8 +7,15 @@ use crate::{yes_or_no, NO, YES};
 /// The largest value of each argument, a row for each code from 1 on.
 const LARGEST: [[u64; 3]; 5] = [[31, 63, 1], [31, 63, 1], [31, 63, 31], [31, 0, 0], [63, 31, 0]];
 
-const fn dominates(a: u64, b: u64) -> bool {
-    a / 8 >= b / 8 && (b % 8) & !(a % 8) == 0
+const EQUAL: u64 = 0;
+const ABOVE: u64 = 1;
+const BELOW: u64 = 2;
+
+/// How label a stands to b: ABOVE where a has something over b, BELOW where b has over a, both together 3, apart.
+pub const fn stands(a: u64, b: u64) -> u64 {
+    let more = a / 8 > b / 8 || (a % 8) & !b != 0;
+    let less = a / 8 < b / 8 || (b % 8) & !a != 0;
+    ABOVE * more as u64 + BELOW * less as u64
 }
 
 /// The first 64 words of every image.
@@ -18,10 +25,11 @@ const SENIORITY: [u64; 64] = {
     while l < 32 {
         let mut k = 0;
         while k < 32 {
-            if dominates(l, k) {
+            let standing = stands(l, k);
+            if matches!(standing, EQUAL | ABOVE) {
                 rows[l as usize] |= 1 << k;
             }
-            if dominates(k, l) {
+            if matches!(standing, EQUAL | BELOW) {
                 rows[32 + l as usize] |= 1 << (32 + k);
             }
             k += 1;

@@ -1,7 +1,8 @@
 //! The sheet guard in plain optimised Rust, without proofs: what the proved guard's speed is measured against.
 //!
 //! Sets are words, and only the members of a word are walked. The functions of this page take lent words and answer
-//! with the scope's numbers: 1 yes, 0 no, 12 to 20 a refusal.
+//! with the scope's numbers: 1 yes, 0 no, 12 to 20 a refusal. The comparison of two labels alone takes no words, and
+//! answers with a number of its own or a refusal.
 
 mod labels;
 mod roles;
@@ -91,6 +92,14 @@ pub fn label_request(words: &mut [u64], code: u64, a: u64, b: u64, c: u64, spent
     let (answer, figure) = outcome.unwrap_or_else(|refusal| (refusal, 0));
     *spent = figure;
     answer
+}
+
+/// How the first of two labels stands to the second: 0 equal, 1 above, 2 below, 3 apart.
+pub fn compare_labels(first: u64, second: u64) -> u64 {
+    if first > 31 || second > 31 {
+        return 16;
+    }
+    labels::stands(first, second)
 }
 
 /// The effective permissions of a session, a word of objects for each mode.

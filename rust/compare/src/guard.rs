@@ -1,6 +1,6 @@
 //! The guards that are compared: each by the calls of `include/sheetguard.h`.
 
-/// A guard by its calls on lent words, which answer with the scope's numbers.
+/// A guard by its calls on lent words and numbers, which answer with the scope's numbers.
 pub struct Guard {
     pub name: &'static str,
     pub role_setup: fn(table: &mut [u64], juniors: &[u64], permissions: &[u64]) -> u64,
@@ -8,6 +8,7 @@ pub struct Guard {
     pub alike: fn(first: &[u64], second: &[u64]) -> u64,
     pub label_setup: fn(table: &mut [u64], clearances: &[u8], labels: &[u8]) -> u64,
     pub label_request: fn(table: &mut [u64], code: u64, a: u64, b: u64, c: u64, spent: &mut u64) -> u64,
+    pub compare_labels: fn(first: u64, second: u64) -> u64,
     pub effective_permissions: fn(table: &[u64], session: u64, masks: &mut [u64]) -> u64,
     pub authorised_roles: fn(table: &[u64], user: u64, roles: &mut [u64]) -> u64,
 }
@@ -22,6 +23,7 @@ macro_rules! guard_of {
             alike: $module::alike,
             label_setup: $module::label_setup,
             label_request: $module::label_request,
+            compare_labels: $module::compare_labels,
             effective_permissions: $module::effective_permissions,
             authorised_roles: $module::authorised_roles,
         }
@@ -47,3 +49,8 @@ pub const GUARDS: &[Guard] = &[
     #[cfg(feature = "proved")]
     PROVED,
 ];
+
+/// The second implementation and every guard that is held to it.
+pub fn guards() -> impl Iterator<Item = &'static Guard> {
+    [&REFERENCE].into_iter().chain(GUARDS)
+}

@@ -20,7 +20,7 @@ pub use case::{Case, Step};
 pub use generate::{damage_everywhere, damaged, likeness, many_requests, requests, set_ups};
 #[cfg(feature = "proved")]
 pub use guard::PROVED;
-pub use guard::{Guard, GUARDS, PLAIN, REFERENCE};
+pub use guard::{guards, Guard, GUARDS, PLAIN, REFERENCE};
 pub use random::Random;
 pub use reached::{every_call, every_transcript, Reached};
 pub use reference::WORDS;

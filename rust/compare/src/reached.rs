@@ -73,7 +73,7 @@ fn line_answer(mode: Option<Layer>, name: &str, fields: Option<usize>, [answer, 
     format!("{mode}: {name} {fields}: {answer} {spent}")
 }
 
-/// Every answer and refusal of every call.
+/// Every answer and refusal of every call on a table.
 pub fn every_call() -> Vec<String> {
     let mut all = Vec::new();
     for (call, answers) in OTHER_CALLS {

@@ -77,7 +77,7 @@ const LABELS: [Word; 8] = [
     request(5, "reclear", &[User, Label], &[[0, 3], [1, 0], [1, 2]]),
 ];
 
-/// The calls that are no requests, and every answer of each.
+/// The calls on a table that are no requests, and every answer of each.
 pub const OTHER_CALLS: [(&str, &[u64]); 5] = [
     ("role set-up", &[1, 12, 18, 20]),
     ("label set-up", &[1, 12, 18, 19]),

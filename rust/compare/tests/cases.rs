@@ -2,7 +2,7 @@
 //! (`crates/cases`), whose expected output is the list of answers here too, the points of bench case J, and starts with
 //! roles.
 
-use compare::{compare, Case, Guard, Reached, Run, Step, GUARDS, LENT, REFERENCE};
+use compare::{compare, guards, Case, Guard, Reached, Run, Step, GUARDS, LENT};
 use reference::{Label, WORDS};
 
 const _: () = assert!(!reference::WRONG, "tests are built without a wrong turn");
@@ -51,9 +51,24 @@ const CONFUSED: &str = "
     lattice; clear 0 9; label 1 9; label 2 10; run
     start 0 0 9; open 0 1 0; open 0 2 1; open 0 1 1";
 
-/// Rows from 501: does the first label dominate the second?
-const PAIRS: [(u64, u64); 10] =
-    [(9, 10), (10, 9), (10, 1), (1, 10), (9, 1), (17, 18), (18, 17), (31, 0), (0, 31), (0, 0)];
+/// Rows from 501: how does the first label stand to the second?
+const PAIRS: [(u64, u64); 15] = [
+    (9, 10),
+    (10, 9),
+    (10, 1),
+    (1, 10),
+    (9, 1),
+    (17, 18),
+    (18, 17),
+    (31, 0),
+    (0, 31),
+    (0, 0),
+    (1, 9),
+    (8, 7),
+    (7, 8),
+    (15, 7),
+    (20, 20),
+];
 
 /// Rows from 601: a word less, a word more, and label 32 in each list of a set-up.
 fn refused() -> Case {
@@ -81,11 +96,6 @@ const CHOSEN: &str = "
     open 0 9 0; open 1 9 0
     start 2 2 8; drop 2 3; open 2 9 0
     start 3 64 0; start 4 3 1; start 4 3 0";
-
-/// The second implementation and every guard that is held to it.
-fn guards() -> impl Iterator<Item = &'static Guard> {
-    [&REFERENCE].into_iter().chain(GUARDS)
-}
 
 /// Lines with blanks for tabs, parted by line ends or semicolons.
 fn lines(text: &str) -> impl Iterator<Item = &str> {
@@ -135,13 +145,12 @@ fn rows_of_the_program_cases() {
     let source = [SOURCE, DERIVED].join("\n");
     let played = [(100, case(BENCH)), (200, case(&source)), (300, case(LISTING)), (400, case(CONFUSED))];
     let chosen = case(CHOSEN);
-    // no call compares labels: these rows are the second implementation's alone
-    let compared = PAIRS.map(|(a, b)| [u64::from(label(a).dominates(label(b))), 0]);
     for guard in guards() {
         let mut rows: Vec<String> = Vec::new();
         for (first, case) in &played {
             rows.extend(numbered(*first, play(case, guard)));
         }
+        let compared = PAIRS.map(|(a, b)| [(guard.compare_labels)(a, b), 0]);
         rows.extend(numbered(501, compared.to_vec()));
         rows.extend(numbered(601, play(&refused(), guard)));
         rows.extend(numbered(700, play(&chosen, guard)));
@@ -352,7 +361,7 @@ fn a_label_start_is_one_role_start() {
         for (clearance, level) in pairs() {
             let text = format!("lattice; clear 4 {clearance}; run");
             let (mut by_label, mut by_roles) = (after(guard, &text), after(guard, &text));
-            let cleared = label(clearance).dominates(label(level));
+            let cleared = label(clearance).stands(label(level)).equal_or_above();
             // the same again is always no
             for answer in [u64::from(cleared), 0] {
                 let reply = by_label.step(guard, &Step::Label([3, 2, 4, level])).map(|reply| reply.answers);

@@ -6,8 +6,21 @@ use crate::turns::turn;
 use std::collections::{BTreeMap, BTreeSet};
 
 /// A label: a class 0 to 3 and a set of three brands.
-#[derive(Clone, Copy, Debug, PartialEq, Eq, PartialOrd, Ord)]
+#[derive(Clone, Copy, Debug, PartialEq, Eq)]
 pub struct Label(u64);
+
+/// How the first of two labels stands to the second.
+#[derive(Clone, Copy, Debug, PartialEq, Eq)]
+pub enum Standing {
+    /// They are the same label.
+    Equal,
+    /// The first dominates the second, and they differ.
+    Above,
+    /// The second dominates the first, and they differ.
+    Below,
+    /// Neither dominates the other.
+    Apart,
+}
 
 /// How many labels there are.
 const LABELS: u64 = 32;
@@ -36,10 +49,20 @@ impl Label {
         [set % 2 == 1, set / 2 % 2 == 1, set / 4 == 1]
     }
 
-    /// The class is at least the other's and the set holds all of the other's brands.
-    pub fn dominates(self, other: Label) -> bool {
-        let (mine, theirs) = (self.brands(), other.brands());
-        self.class() >= other.class() && (0..3).all(|brand| mine[brand] || !theirs[brand])
+    /// How the label stands to another. The one dominates whose class is at least the other's and whose set holds all of
+    /// the other's brands; the wrong turn asks for a higher class.
+    pub fn stands(self, other: Label) -> Standing {
+        let reaches = |class: u64, of: u64| turn!("wrong-above-by-class", class >= of, class > of);
+        let holds = |set: [bool; 3], all_of: [bool; 3]| (0..3).all(|brand| set[brand] || !all_of[brand]);
+        if self == other {
+            Standing::Equal
+        } else if reaches(self.class(), other.class()) && holds(self.brands(), other.brands()) {
+            Standing::Above
+        } else if reaches(other.class(), self.class()) && holds(other.brands(), self.brands()) {
+            Standing::Below
+        } else {
+            Standing::Apart
+        }
     }
 
     fn read_role(self) -> u64 {
@@ -48,6 +71,23 @@ impl Label {
 
     fn write_role(self) -> u64 {
         32 + self.0
+    }
+}
+
+impl Standing {
+    /// Whether the first label dominates the second; the wrong turn lets labels pass that are apart.
+    pub fn equal_or_above(self) -> bool {
+        turn!("wrong-not-below", matches!(self, Standing::Equal | Standing::Above), self != Standing::Below)
+    }
+
+    /// The number that the comparison of two labels answers with.
+    pub fn number(self) -> u64 {
+        match self {
+            Standing::Equal => 0,
+            Standing::Above => 1,
+            Standing::Below => 2,
+            Standing::Apart => 3,
+        }
     }
 }
 
@@ -103,10 +143,11 @@ impl Machine {
             return false;
         };
         let label = self.labels[&o];
-        let yes = match x {
-            READ => level.dominates(label),
-            _ => may_write(label, *level),
+        let standing = match x {
+            READ => level.stands(label),
+            _ => written(label, *level),
         };
+        let yes = standing.equal_or_above();
         if yes {
             self.openings.insert((s, x, o));
         }
@@ -114,7 +155,7 @@ impl Machine {
     }
 
     fn start(&mut self, s: Session, u: User, y: Label) -> bool {
-        let cleared = self.clearances.get(&u).is_some_and(|clearance| clearance.dominates(y));
+        let cleared = self.clearances.get(&u).is_some_and(|clearance| clearance.stands(y).equal_or_above());
         let yes = cleared && !self.sessions.contains_key(&s);
         if yes {
             self.sessions.insert(s, (u, y));
@@ -132,7 +173,7 @@ impl Machine {
             return turn!("wrong-reclear-same", (true, 0), self.reclear_same(u));
         }
         let mut seats = self.sessions.values().filter(|(user, _)| *user == u);
-        let yes = seats.all(|(_, level)| c.dominates(*level));
+        let yes = seats.all(|(_, level)| c.stands(*level).equal_or_above());
         if yes {
             self.clearances.insert(u, c);
         }
@@ -154,10 +195,10 @@ impl Machine {
         let mut state = State { openings: self.openings.clone(), ..State::default() };
         for l in Label::all() {
             for k in Label::all() {
-                if l.dominates(k) {
+                if l.stands(k).equal_or_above() {
                     state.seniority.insert((l.read_role(), k.read_role()));
                 }
-                if may_write(k, l) {
+                if written(k, l).equal_or_above() {
                     state.seniority.insert((l.write_role(), k.write_role()));
                 }
             }
@@ -196,9 +237,9 @@ impl Machine {
     }
 }
 
-/// Whether a session at a level may write what has the label; the wrong turn lets it write down.
-fn may_write(label: Label, level: Label) -> bool {
-    turn!("wrong-write-like-read", label.dominates(level), level.dominates(label))
+/// How the label of what is written stands to the level of the session; the wrong turn has it write down.
+fn written(label: Label, level: Label) -> Standing {
+    turn!("wrong-write-like-read", label.stands(level), level.stands(label))
 }
 
 /// The label whose reading role is the only one among the roles.

@@ -1,10 +1,11 @@
 //! The sheet guard a second time, as sets and relations, for comparison with the proved one.
 //!
-//! It is written from the scope alone and is as plain as it can be: a table of words is read into sets
+//! It is written from the scope and the change requests alone and is as plain as it can be: a table of words is read into sets
 //! ([`State`]), a label table further into a Bell-LaPadula machine ([`Machine`]), the request is carried out there by
 //! the words of the scope, and the table is written anew. Nothing here is fast, and no bit is ever masked.
 //!
-//! The functions of this page take lent words and answer with the scope's numbers: 1 yes, 0 no, 12 to 20 a refusal.
+//! The functions of this page take lent words and answer with the scope's numbers: 1 yes, 0 no, 12 to 20 a refusal. The
+//! comparison of two labels alone takes no words, and answers with a number of its own or a refusal.
 
 mod labels;
 mod requests;
@@ -14,7 +15,7 @@ mod table;
 pub mod transcript;
 mod turns;
 
-pub use labels::{Label, Machine};
+pub use labels::{Label, Machine, Standing};
 pub use state::State;
 pub use table::WORDS;
 pub use turns::WRONG;
@@ -76,6 +77,14 @@ pub fn label_request(table: &mut [u64], code: u64, a: u64, b: u64, c: u64, spent
         table::write(&machine.image(), table);
         Ok(answer)
     }))
+}
+
+/// How the first of two labels stands to the second: 0 equal, 1 above, 2 below, 3 apart. Refusal 16: one is no label.
+pub fn compare_labels(first: u64, second: u64) -> u64 {
+    match (Label::of(first), Label::of(second)) {
+        (Some(one), Some(other)) => one.stands(other).number(),
+        _ => 16,
+    }
 }
 
 /// The effective permissions of a session, a word of objects for each mode.

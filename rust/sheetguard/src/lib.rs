@@ -2,9 +2,9 @@
 //!
 //! The guard keeps nothing of its own. The caller lends a table of [`WORDS`] words at each call: a role table, written
 //! by [`set_up_roles`] and asked by [`role_request`], or a label table, written by [`set_up_labels`] and asked by
-//! [`label_request`]. Users, roles and objects are 0 to 63, sessions 0 to 31, modes 0 to 7 and labels 0 to 31; a set of
-//! them is a word with bit i set when i is a member. Any slice and any number may be passed: what does not fit is
-//! refused, and a no or a [`Refusal`] leaves all words unchanged.
+//! [`label_request`]. How two labels stand ([`Label::stands`]) is asked without a table. Users, roles and objects are 0 to
+//! 63, sessions 0 to 31, modes 0 to 7 and labels 0 to 31; a set of them is a word with bit i set when i is a member. Any
+//! slice and any number may be passed: what does not fit is refused, and a no or a [`Refusal`] leaves all words unchanged.
 //!
 //! A programmer who has to store, restore or migrate a table finds in `docs/TABLE.md` of the project the layout of the
 //! words, what sound means, which fault gets which refusal, and byte order.
@@ -33,9 +33,11 @@
 //! # Labels
 //!
 //! A label is `class * 8 + brand set`: a class 0 to 3, and a set of three brands, worth 1, 2 and 4. Label a *dominates* b
-//! when a's class is at least b's and a's set holds all of b's brands: 25 (class 3, brand 1) dominates 9 (class 1,
-//! brand 1); 17 and 18 (class 2, brands 1 and 2) are apart, and neither dominates the other. Seven of the 32 labels, each
-//! of which dominates itself and those that lines lead down to:
+//! when a's class is at least b's and a's set holds all of b's brands. Two labels stand in one of four ways: they are
+//! *equal*; the first is *above* the second, dominates it and differs from it; it is *below* the second, the reverse; or
+//! they are *apart*, and neither dominates the other. 25 (class 3, brand 1) is above 9 (class 1, brand 1), and 9 below 25;
+//! 17 (class 2, brand 1) and 18 (class 2, brand 2) are apart. Seven of the 32 labels, each of which dominates itself and
+//! those that lines lead down to:
 //!
 //! ```text
 //!       31          31: class 3, all three brands
@@ -49,14 +51,29 @@
 //!        0           0: class 0, no brand
 //! ```
 //!
-//! A session reads what its level dominates, and writes what dominates its level.
+//! A session reads what its level dominates, and writes what dominates its level. [`Label::stands`] answers with one of the
+//! four, a [`Standing`], and `a >= b` on [`Label`] is "a dominates b":
+//!
+//! ```
+//! use sheetguard::{Label, Refusal, Standing};
+//!
+//! # fn main() -> Result<(), Refusal> {
+//! let (level, label) = (Label::new(17)?, Label::new(25)?);
+//! assert_eq!(level.stands(label), Standing::Below);
+//! assert!(label >= level); // at level 17 what has label 25 may be written
+//! assert!(!(level >= label)); // and not read
+//! # Ok(())
+//! # }
+//! ```
 
 #![warn(missing_docs)]
 #![doc(test(attr(deny(unused_must_use))))]
 
+mod label;
 pub mod numbers;
 mod request;
 
+pub use label::{Label, Standing};
 pub use request::{LabelRequest, RoleRequest};
 use std::fmt::{self, Display, Formatter};
 

@@ -1,4 +1,5 @@
-//! The guard's calls as the C header has them, on slices and with the scope's numbers: 1 yes, 0 no, 12 to 20 a refusal.
+//! The guard's calls as the C header has them, on slices and with the scope's numbers: 1 yes, 0 no, 12 to 20 a refusal;
+//! how two labels stand is 0 equal, 1 above, 2 below or 3 apart.
 //!
 //! Any slice and any number may be passed; nothing here panics.
 
@@ -30,6 +31,7 @@ extern "C" {
         c: u64,
         spent: *mut u64,
     ) -> u64;
+    fn sheetguard_compare_labels(first: u64, second: u64) -> u64;
     fn sheetguard_effective_permissions(
         table: *const u64,
         words: usize,
@@ -94,6 +96,13 @@ pub fn label_setup(table: &mut [u64], clearances: &[u8], labels: &[u8]) -> u64 {
 pub fn label_request(table: &mut [u64], code: u64, a: u64, b: u64, c: u64, spent: &mut u64) -> u64 {
     // SAFETY: see above
     unsafe { sheetguard_label_request(table.as_mut_ptr(), table.len(), code, a, b, c, spent) }
+}
+
+/// How the first label stands to the second; 16 where a number is over 31.
+#[must_use]
+pub fn compare_labels(first: u64, second: u64) -> u64 {
+    // SAFETY: no pointer is passed
+    unsafe { sheetguard_compare_labels(first, second) }
 }
 
 /// Writes the effective permissions of a session into eight words.
