@@ -1,5 +1,6 @@
 -- Going through the members of a word, lowest first: what a loop `while m != 0 { q = lowest(m); m = rest(m); .. }` needs.
--- Its invariant is an equation between the whole word and what is left of it, one record for each use. Assumes nothing.
+-- Its invariant is an equation between the whole word and what is left of it, one record for each use; the last record is for
+-- a loop that asks the numbers from 0 up. Assumes nothing.
 use Prim.Native.Nat.{ℕ, zero, suc, _+_, _-_, _*_, _/_, _%_, _^_, _≤_, _<_}
 use mathlib.Core.Path.{_≡_, refl, sym, ap, ap₂, _∙_}
 use mathlib.Core.Bool.{Bool, true, false}

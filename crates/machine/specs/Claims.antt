@@ -21,7 +21,7 @@ Means Above a b = Dominates a b × (a ≡ b → ⊥)
 Means Below a b = Dominates b a × (b ≡ a → ⊥)
 Means Apart a b = (Dominates a b → ⊥) × (Dominates b a → ⊥)
 
--- How do two labels stand? In each of the four ways exactly where it means what it says; the first is below the second exactly
+-- How do two labels stand? In each of the four ways exactly where what it means holds; the first is below the second exactly
 -- where the second is above the first; and equal or above is what 01 calls dominates.
 pub record StandsMeans : Type 0 where
   pub exactly : (a b : ℕ) (w : Standing) → stands a b ≡ w ↔ Means w a b
