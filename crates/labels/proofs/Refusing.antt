@@ -1,18 +1,20 @@
 -- The label guard's refusals in their order, and what follows them. Assumes nothing.
-use Prim.Native.Nat.{ℕ, _≤_, _<_}
+use Prim.Native.Nat.{ℕ, _≤_}
 use mathlib.Core.Path.{_≡_, _∙_}
 use mathlib.Core.Bool.{true, false}
 use mathlib.Core.List.{List}
 use lib.ListN.{length}
-use borrow.Author.Tests.{le-leb, lt-leb}
-use Rattle.bits.proofs.Truth.{past, stopped, and-intro, false-and, and-false}
+use borrow.Author.Tests.{le-leb}
+use Rattle.bits.proofs.Truth.{is-false, past, stopped, and-intro}
 use Rattle.table.specs.Sound.{sound}
 use Rattle.table.specs.Reading.{state}
 use Rattle.table.specs.Table.{tableLength, isTable}
 use Rattle.table.proofs.Table.{is-table}
 use Rattle.roles.specs.Request.{Ask, ask, refuse}
 use Rattle.roles.specs.Guard.{roleStep, soundStep}
+use Rattle.roles.proofs.Codes.{NoneTo, none-left}
 use Rattle.machine.specs.Machine.{isCode, inRange, decode}
+use Rattle.machine.proofs.Steps.{code-elim}
 use Rattle.image.specs.Test.{isImage}
 use Rattle.labels.specs.Guard.{RoleGuard, plan, carryOut, translated, labelStep, imageStep}
 
@@ -23,13 +25,8 @@ module _ (q : Ask) where
   unfolding isCode
   is-code l h = and-intro (le-leb 1 (q .code) l) (le-leb (q .code) 5 h)
 
-  pub code-low : q .code < 1 → isCode q ≡ false
-  unfolding isCode
-  code-low h = false-and _ (lt-leb 1 (q .code) h)
-
-  pub code-high : 5 < q .code → isCode q ≡ false
-  unfolding isCode
-  code-high h = and-false _ (lt-leb (q .code) 5 h)
+  pub no-code : NoneTo 5 (q .code) → isCode q ≡ false
+  no-code k = is-false (λ e. none-left 5 k (code-elim q e))
 
 -- ---- refusals
 

@@ -6,14 +6,15 @@ use table::layout::WORDS;
 ghost use mathlib.Core.Path.{_≡_};
 ghost use mathlib.Core.Bool.{true};
 ghost use Prim.Native.Nat.{_+_, _-_, _≤_, _<_};
-ghost use lib.ListN.{length};
+ghost use mathlib.Core.List.{[]};
+ghost use lib.ListN.{length, getD};
 ghost use Rattle.bits.specs.Words.{_with_};
 ghost use Rattle.table.specs.Reading.{state};
 ghost use Rattle.table.specs.Table.{tableLength};
 ghost use Rattle.roles.specs.Request.{ask};
 ghost use Rattle.roles.specs.Guard.{soundStep};
 ghost use Rattle.roles.specs.Answer.{numberOf};
-ghost use Rattle.machine.specs.Machine.{reclearing, inRange, decode};
+ghost use Rattle.machine.specs.Machine.{reclearing, limits, inRange, decode};
 ghost use Rattle.labels.specs.Guard.{single, saysYes, plan, carryOut, labelStep, imageStep};
 ghost use Rattle.labels.specs.Reply.{Replied};
 
@@ -96,15 +97,6 @@ const LIMITS: [[u64; 3]; 5] = [
     [63, 31, 0],
 ];
 
-// Whether the arguments of a code from 1 to 5 are within its limits.
-fn in_range(code: u64, a: u64, b: u64, c: u64) -> bool
-    requires { ⌜ (1 ≤ code) × (code ≤ 5) ⌝ }
-    ensures { λ r. ⌜ r ≡ inRange (ask code a b c) ⌝ }
-{
-    let row = (code - 1) as usize;
-    roles::within(LIMITS[row], a, b, c)
-}
-
 // The label request of a code from 1 to 5, with its arguments in range.
 fn perform(t: &mut [u64], code: u64, a: u64, b: u64, c: u64) -> LabelAnswer
     requires { ⌜ (length (now t) ≡ tableLength) × (1 ≤ code) × (code ≤ 5) × (inRange (ask code a b c) ≡ true) ⌝ }
@@ -119,7 +111,21 @@ fn perform(t: &mut [u64], code: u64, a: u64, b: u64, c: u64) -> LabelAnswer
     }
 }
 
-// A label request on a table that is known to be a sound image: `request` without these two tests.
+// The label request of a code from 1 to 5 with its row of LIMITS, on a table of the right length.
+fn serve_code(t: &mut [u64], code: u64, largest: [u64; 3], a: u64, b: u64, c: u64) -> LabelAnswer
+    requires { ⌜ (length (now t) ≡ tableLength) × (1 ≤ code) × (code ≤ 5) × (largest ≡ getD limits (code - 1) []) ⌝ }
+    ensures answer { λ r. ⌜ numberOf (r .answer) ≡ imageStep (now (t .entry)) (ask code a b c) .answer ⌝ }
+    ensures spent { λ r. ⌜ r .spent ≡ imageStep (now (t .entry)) (ask code a b c) .spent ⌝ }
+    ensures table { λ r. ⌜ now (t .exit) ≡ imageStep (now (t .entry)) (ask code a b c) .state ⌝ }
+{
+    if !roles::within(largest, a, b, c) {
+        return refused(Refusal::BadArgument);
+    }
+    perform(t, code, a, b, c)
+}
+
+// A label request on a table that is known to be a sound image: `request` without these two tests. (The code is looked at once,
+// and each row is read by a constant index, so that the table of rows is not built on the stack at each call.)
 pub fn serve(t: &mut [u64], code: u64, a: u64, b: u64, c: u64) -> LabelAnswer
     ensures answer { λ r. ⌜ numberOf (r .answer) ≡ imageStep (now (t .entry)) (ask code a b c) .answer ⌝ }
     ensures spent { λ r. ⌜ r .spent ≡ imageStep (now (t .entry)) (ask code a b c) .spent ⌝ }
@@ -128,16 +134,15 @@ pub fn serve(t: &mut [u64], code: u64, a: u64, b: u64, c: u64) -> LabelAnswer
     if t.len() != WORDS {
         return refused(Refusal::WrongLength);
     }
-    if code < 1 {
-        return refused(Refusal::BadCode);
+    let rows = LIMITS; // named once: the check builds a constant anew wherever it is named
+    match code {
+        1 => serve_code(t, 1, rows[0], a, b, c),
+        2 => serve_code(t, 2, rows[1], a, b, c),
+        3 => serve_code(t, 3, rows[2], a, b, c),
+        4 => serve_code(t, 4, rows[3], a, b, c),
+        5 => serve_code(t, 5, rows[4], a, b, c),
+        _ => refused(Refusal::BadCode),
     }
-    if 5 < code {
-        return refused(Refusal::BadCode);
-    }
-    if !in_range(code, a, b, c) {
-        return refused(Refusal::BadArgument);
-    }
-    perform(t, code, a, b, c)
 }
 
 // A label request on a lent table of any length and contents.

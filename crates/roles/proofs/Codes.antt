@@ -8,8 +8,8 @@ use native.Mathlib.Nat.{le-antisymm}
 use lib.Arith.{lt-of-le-ne}
 use lib.Dec.{leb}
 use lib.ListN.{getD}
-use borrow.Author.Tests.{leb-true, le-leb, lt-leb}
-use Rattle.bits.proofs.Truth.{and-intro, and-left, and-right, false-and, and-false, if-true, if-false}
+use borrow.Author.Tests.{leb-true, le-leb}
+use Rattle.bits.proofs.Truth.{is-false, and-intro, and-left, and-right, if-true, if-false}
 use Rattle.table.specs.State.{State}
 use Rattle.roles.specs.Request.{Ask, ask, within}
 use Rattle.roles.specs.Roles.{Request, isCode, limits, inRange, decode, known}
@@ -17,22 +17,36 @@ use Rattle.roles.specs.Served.{Ranged, Fit, Served, pairKnown}
 
 -- ---- the code
 
+-- a code is none of 1 to n, as the last arm of a match finds it
+unfoldable pub NoneTo : ℕ → ℕ → Type 0
+NoneTo zero code = Unit
+NoneTo (suc n) code = NoneTo n code × (code ≡ suc n → ⊥)
+
+-- from 1 on it is above n
+above : (n : ℕ) {code : ℕ} → 1 ≤ code → NoneTo n code → n < code
+unfolding NoneTo
+above zero l k = l
+above (suc n) l k = lt-of-le-ne (above n l (k .0)) (λ e. k .1 (sym e))
+
+-- of the codes 1 to n + 1 it is the last
+pub the-last : (n : ℕ) {code : ℕ} → 1 ≤ code → code ≤ suc n → NoneTo n code → code ≡ suc n
+the-last n l h k = le-antisymm h (above n l k)
+
+-- of the codes 1 to n there is none left
+pub none-left : (n : ℕ) {code : ℕ} → NoneTo n code → (1 ≤ code) × (code ≤ n) → ⊥
+none-left n k c = let h = above n (c .0) k in omega arith
+
 module _ (q : Ask) where
   pub is-code : 1 ≤ q .code → q .code ≤ 10 → isCode q ≡ true
   unfolding isCode
   is-code l h = and-intro (le-leb 1 (q .code) l) (le-leb (q .code) 10 h)
 
-  pub code-low : q .code < 1 → isCode q ≡ false
-  unfolding isCode
-  code-low h = false-and _ (lt-leb 1 (q .code) h)
-
-  pub code-high : 10 < q .code → isCode q ≡ false
-  unfolding isCode
-  code-high h = and-false _ (lt-leb (q .code) 10 h)
-
   pub is-code-elim : isCode q ≡ true → (1 ≤ q .code) × (q .code ≤ 10)
   unfolding isCode
   is-code-elim e = (leb-true 1 (q .code) (and-left _ _ e), leb-true (q .code) 10 (and-right _ _ e))
+
+  pub no-code : NoneTo 10 (q .code) → isCode q ≡ false
+  no-code k = is-false (λ e. none-left 10 k (is-code-elim e))
 
 -- ---- the arguments
 
@@ -93,17 +107,6 @@ paired S (suc (suc (suc (suc (suc (suc (suc (suc (suc (suc zero)))))))))) a b c 
 paired S (suc (suc (suc (suc (suc (suc (suc (suc (suc (suc (suc k))))))))))) a b c l h r = absurd (omega arith)
 
 -- ---- the request
-
--- one more number ruled out
-beyond : {n m : ℕ} → n ≤ m → (m ≡ n → ⊥) → n < m
-beyond h k = lt-of-le-ne h (λ e. k (sym e))
-
--- a code that is none of the first nine is the tenth
-pub tenth : {code : ℕ} → 1 ≤ code → code ≤ 10
-    → (code ≡ 1 → ⊥) → (code ≡ 2 → ⊥) → (code ≡ 3 → ⊥) → (code ≡ 4 → ⊥) → (code ≡ 5 → ⊥)
-    → (code ≡ 6 → ⊥) → (code ≡ 7 → ⊥) → (code ≡ 8 → ⊥) → (code ≡ 9 → ⊥) → code ≡ 10
-tenth l h n1 n2 n3 n4 n5 n6 n7 n8 n9 =
-    le-antisymm h (beyond (beyond (beyond (beyond (beyond (beyond (beyond (beyond (beyond l n1) n2) n3) n4) n5) n6) n7) n8) n9)
 
 pub fit-as : {t : List ℕ} {q q′ : Request} → q ≡ q′ → Fit t q → Fit t q′
 fit-as {t} e f = subst (Fit t) e f

@@ -26,10 +26,11 @@ use Rattle.roles.proofs.Codes.{is-code}
 use Rattle.roles.proofs.Same.{allowed-same}
 use Rattle.roles.proofs.Steps.{step-encode, step-sound}
 
--- arguments within their largest values, of whatever code
-pub any-code : (largest : List ℕ) (code a b c : ℕ) → within largest (ask 0 a b c) ≡ within largest (ask code a b c)
+-- arguments within a row of limits, of whatever code
+pub within-row : {r : Bool} {largest row : List ℕ} (code a b c : ℕ) → r ≡ within largest (ask 0 a b c) → largest ≡ row
+    → r ≡ within row (ask code a b c)
 unfolding within
-any-code largest code a b c = refl
+within-row code a b c w e = rw e at w
 
 pub within-intro : (largest : List ℕ) (code a b c : ℕ) → a ≤ getD largest 0 0 → b ≤ getD largest 1 0 → c ≤ getD largest 2 0
     → within largest (ask code a b c) ≡ true

@@ -8,12 +8,13 @@ use table::layout::PERMITTED;
 use table::layout::WORDS;
 ghost use mathlib.Core.Path.{_≡_};
 ghost use Prim.Native.Nat.{_-_, _≤_, _<_};
-ghost use lib.ListN.{length};
+ghost use mathlib.Core.List.{[]};
+ghost use lib.ListN.{length, getD};
 ghost use Rattle.table.specs.Reading.{state};
 ghost use Rattle.table.specs.Table.{tableLength};
 ghost use Rattle.roles.specs.Request;
 ghost use Rattle.roles.specs.Request.{ask};
-ghost use Rattle.roles.specs.Roles.{opens, closes, starts, ends, activates, drops, assigns, deassigns, grants, revokes, inRange, decode};
+ghost use Rattle.roles.specs.Roles.{opens, closes, starts, ends, activates, drops, assigns, deassigns, grants, revokes, limits, decode};
 ghost use Rattle.roles.specs.Guard.{roleStep, soundStep};
 ghost use Rattle.roles.specs.Answer.{refusalNumber, numberOf};
 ghost use Rattle.roles.specs.Served.{Fit, Served, pairKnown, closedAll};
@@ -233,15 +234,6 @@ pub fn within(largest: [u64; 3], a: u64, b: u64, c: u64) -> bool
     c <= largest[2]
 }
 
-// Whether the arguments of a code from 1 to 10 are within its limits.
-fn in_range(code: u64, a: u64, b: u64, c: u64) -> bool
-    requires { ⌜ (1 ≤ code) × (code ≤ 10) ⌝ }
-    ensures { λ r. ⌜ r ≡ inRange (ask code a b c) ⌝ }
-{
-    let row = (code - 1) as usize;
-    within(LIMITS[row], a, b, c)
-}
-
 // Whether the pair that a grant or revoke names is a permission; the other requests name none.
 fn is_known(t: &[u64], code: u64, x: usize, o: usize) -> bool
     requires { ⌜ (length (now t) ≡ tableLength) × (9 ≤ code → x < 8) ⌝ }
@@ -272,21 +264,13 @@ fn perform(t: &mut [u64], code: u64, a: usize, b: usize, c: usize) -> bool
     }
 }
 
-// A role request on a table that is known to be sound: `request` without the soundness test.
-pub fn serve(t: &mut [u64], code: u64, a: u64, b: u64, c: u64) -> Answer
+// The request of a code from 1 to 10 with its row of LIMITS, on a table of the right length.
+fn serve_code(t: &mut [u64], code: u64, largest: [u64; 3], a: u64, b: u64, c: u64) -> Answer
+    requires { ⌜ (length (now t) ≡ tableLength) × (1 ≤ code) × (code ≤ 10) × (largest ≡ getD limits (code - 1) []) ⌝ }
     ensures answer { λ r. ⌜ numberOf r ≡ soundStep (now (t .entry)) (ask code a b c) .answer ⌝ }
     ensures table { λ r. ⌜ now (t .exit) ≡ soundStep (now (t .entry)) (ask code a b c) .state ⌝ }
 {
-    if t.len() != WORDS {
-        return Answer::Refused(Refusal::WrongLength);
-    }
-    if code < 1 {
-        return Answer::Refused(Refusal::BadCode);
-    }
-    if 10 < code {
-        return Answer::Refused(Refusal::BadCode);
-    }
-    if !in_range(code, a, b, c) {
+    if !within(largest, a, b, c) {
         return Answer::Refused(Refusal::BadArgument);
     }
     if !is_known(t, code, b as usize, c as usize) {
@@ -295,6 +279,31 @@ pub fn serve(t: &mut [u64], code: u64, a: u64, b: u64, c: u64) -> Answer
     match perform(t, code, a as usize, b as usize, c as usize) {
         true => Answer::Yes,
         false => Answer::No,
+    }
+}
+
+// A role request on a table that is known to be sound: `request` without the soundness test. (The code is looked at once, and
+// each row is read by a constant index, so that the table of rows is not built on the stack at each call.)
+pub fn serve(t: &mut [u64], code: u64, a: u64, b: u64, c: u64) -> Answer
+    ensures answer { λ r. ⌜ numberOf r ≡ soundStep (now (t .entry)) (ask code a b c) .answer ⌝ }
+    ensures table { λ r. ⌜ now (t .exit) ≡ soundStep (now (t .entry)) (ask code a b c) .state ⌝ }
+{
+    if t.len() != WORDS {
+        return Answer::Refused(Refusal::WrongLength);
+    }
+    let rows = LIMITS; // named once: the check builds a constant anew wherever it is named
+    match code {
+        1 => serve_code(t, 1, rows[0], a, b, c),
+        2 => serve_code(t, 2, rows[1], a, b, c),
+        3 => serve_code(t, 3, rows[2], a, b, c),
+        4 => serve_code(t, 4, rows[3], a, b, c),
+        5 => serve_code(t, 5, rows[4], a, b, c),
+        6 => serve_code(t, 6, rows[5], a, b, c),
+        7 => serve_code(t, 7, rows[6], a, b, c),
+        8 => serve_code(t, 8, rows[7], a, b, c),
+        9 => serve_code(t, 9, rows[8], a, b, c),
+        10 => serve_code(t, 10, rows[9], a, b, c),
+        _ => Answer::Refused(Refusal::BadCode),
     }
 }
 

@@ -1,6 +1,6 @@
 -- `perform` meets its contract: each arm's request is the one that the code decodes to. Assumes nothing.
 use Rattle.roles.specs.Roles.{decode}
-use Rattle.roles.proofs.Codes.{tenth, fit-as, served-as}
+use Rattle.roles.proofs.Codes.{NoneTo, the-last, fit-as, served-as}
 use Rattle.roles.proofs.perform.Statement.{statement}
 use Rattle.roles.proofs.perform.Tie as tie
 
@@ -41,11 +41,9 @@ unfolding decode
 grant-requires c κs = fit-as (rw (c .before .match .keys9)) (c .before .before .before .pre .2)
 
 revoke-requires : tie.Need-revoke-requires
-unfolding decode
+unfolding decode NoneTo
 revoke-requires c κs =
-    let p = c .before .before .before .pre in
-    let n = c .before .match .rest in
-    fit-as (rw (tenth (p .0) (p .1) (n .0 .0 .0 .0 .0 .0 .0 .0 .1) (n .0 .0 .0 .0 .0 .0 .0 .1) (n .0 .0 .0 .0 .0 .0 .1) (n .0 .0 .0 .0 .0 .1) (n .0 .0 .0 .0 .1) (n .0 .0 .0 .1) (n .0 .0 .1) (n .0 .1) (n .1))) (p .2)
+    let p = c .before .before .before .pre in fit-as (rw (the-last 9 (p .0) (p .1) (c .before .match .rest))) (p .2)
 
 returns : tie.Need-returns
 unfolding decode
@@ -84,12 +82,11 @@ unfolding decode
 returns-9 c = served-as (rw (c .before .before .before .before .match .keys9)) (c .before .before .grant .ensures)
 
 returns-10 : tie.Need-returns-10
-unfolding decode
+unfolding decode NoneTo
 returns-10 c =
     let m = c .before .before .before .before in
     let p = m .before .before .pre in
-    let n = m .match .rest in
-    served-as (rw (tenth (p .0) (p .1) (n .0 .0 .0 .0 .0 .0 .0 .0 .1) (n .0 .0 .0 .0 .0 .0 .0 .1) (n .0 .0 .0 .0 .0 .0 .1) (n .0 .0 .0 .0 .0 .1) (n .0 .0 .0 .0 .1) (n .0 .0 .0 .1) (n .0 .0 .1) (n .0 .1) (n .1))) (c .before .before .revoke .ensures)
+    served-as (rw (the-last 9 (p .0) (p .1) (m .match .rest))) (c .before .before .revoke .ensures)
 
 pub perform-spec : {M : Type 1} → statement M
 perform-spec =
