@@ -4,4 +4,6 @@ pub mod Words
 pub mod Resume
 pub mod Short
 pub mod Fresh
+pub mod Stepping
+pub mod Going
 pub mod Claims

@@ -17,10 +17,10 @@ use Rattle.lines.specs.declared.Fields.the-variants.{Without}
 use Rattle.lines.specs.declared.Line.{Line}
 use Rattle.lines.specs.declared.Line.the-variants.{Refused}
 use Rattle.lines.specs.declared.Reader.{Reader}
-use Rattle.lines.specs.declared.Reader.the-variants.{Letters, Tab, Nought, Digits, Broken}
+use Rattle.lines.specs.declared.Reader.the-variants.{Letters, Tab, Digits, Broken}
 use Rattle.lines.proofs.Words.{lettersFrom, letters-spelled}
 use Rattle.bits.proofs.Truth.{clash}
-use Rattle.lines.proofs.Values.{along, digitsFrom, noughtThen, number-along}
+use Rattle.lines.proofs.Values.{along, digitsFrom, number-along}
 
 -- ---- a line in pieces
 
@@ -35,7 +35,6 @@ steps-append s (b ∷ l) m = steps-append (stepOf s b) l m
 unfoldable resume : Reader → List ℕ → List (List ℕ) → Line
 resume (Letters x) p ps = joined (lettersFrom x p) (fields ps (some Without))
 resume (Tab w fs) p ps = joined (As w) (fields ps (push (some fs) (number p)))
-resume (Nought w fs) p ps = joined (As w) (fields ps (push (some fs) (noughtThen p)))
 resume (Digits w fs v) p ps = joined (As w) (fields ps (push (some fs) (digitsFrom v p)))
 resume Broken p ps = Refused
 
@@ -60,10 +59,9 @@ after-field w (some fs) p ps = refl
 after-field w none p ps = refused w (p ∷ ps)
 
 resume-tab : (s : Reader) (p : List ℕ) (ps : List (List ℕ)) → resume s [] (p ∷ ps) ≡ resume (stepOf s 9) p ps
-unfolding resume stepOf along pushed push number plain _and_ if_then_else_
+unfolding resume stepOf along digitsFrom pushed push number plain _and_ if_then_else_
 resume-tab (Letters x) p ps = after-word (wordOf x) p ps
 resume-tab (Tab w fs) p ps = refused w (p ∷ ps)
-resume-tab (Nought w fs) p ps = after-field w (behind fs 0) p ps
 resume-tab (Digits w fs v) p ps = after-field w (behind fs v) p ps
 resume-tab Broken p ps = refl
 
@@ -75,33 +73,23 @@ letters-byte true good s x p ps h = clash {b = true} refl h
 letters-byte false true s x p ps h = refl
 letters-byte false false s x p ps h = refl
 
-field-byte : (nought good : Bool) (w : Word) (fs : Fields) (v : ℕ) (p : List ℕ) (ps : List (List ℕ))
-    → joined (As w) (fields ps (push (some fs) (if_then_else_ nought (noughtThen p) (if_then_else_ good (digitsFrom v p) none))))
-    ≡ resume (if_then_else_ nought (Nought w fs) (if_then_else_ good (Digits w fs v) Broken)) p ps
+field-byte : (good : Bool) (w : Word) (fs : Fields) (v : ℕ) (p : List ℕ) (ps : List (List ℕ))
+    → joined (As w) (fields ps (push (some fs) (if_then_else_ good (digitsFrom v p) none))) ≡ resume (if_then_else_ good (Digits w fs v) Broken) p ps
 unfolding resume push if_then_else_
-field-byte true good w fs v p ps = refl
-field-byte false true w fs v p ps = refl
-field-byte false false w fs v p ps = refused w ps
+field-byte true w fs v p ps = refl
+field-byte false w fs v p ps = refused w ps
 
 digits-byte : (tab good : Bool) (s : Reader) (w : Word) (fs : Fields) (v : ℕ) (p : List ℕ) (ps : List (List ℕ)) → tab ≡ false
     → joined (As w) (fields ps (push (some fs) (if_then_else_ good (digitsFrom v p) none))) ≡ resume (if_then_else_ tab s (if_then_else_ good (Digits w fs v) Broken)) p ps
-unfolding resume push if_then_else_
+unfolding if_then_else_
 digits-byte true good s w fs v p ps h = clash {b = true} refl h
-digits-byte false true s w fs v p ps h = refl
-digits-byte false false s w fs v p ps h = refused w ps
-
-nought-byte : (tab : Bool) (s : Reader) (w : Word) (p : List ℕ) (ps : List (List ℕ)) → tab ≡ false
-    → joined (As w) (fields ps none) ≡ resume (if_then_else_ tab s Broken) p ps
-unfolding resume if_then_else_
-nought-byte true s w p ps h = clash {b = true} refl h
-nought-byte false s w p ps h = refused w ps
+digits-byte false good s w fs v p ps h = field-byte good w fs v p ps
 
 resume-byte : (s : Reader) (b : ℕ) (p : List ℕ) (ps : List (List ℕ)) → eqb b 9 ≡ false → resume s (b ∷ p) ps ≡ resume (stepOf s b) p ps
-unfolding resume stepOf along push if_then_else_
+unfolding resume stepOf along digitsFrom push if_then_else_
 resume-byte (Letters x) b p ps h = letters-byte (eqb b 9) (letter b and ltb (x * 256 + b) (2 ^ 64)) (begun (wordOf x)) (x * 256 + b) p ps h
-resume-byte (Tab w fs) b p ps h = rw (number-along b p) (field-byte (eqb b 48) (digit b) w fs (b - 48) p ps)
-resume-byte (Nought w fs) b p ps h = nought-byte (eqb b 9) (pushed w fs 0) w p ps h
-resume-byte (Digits w fs v) b p ps h = digits-byte (eqb b 9) (digit b and ltb (v * 10 + (b - 48)) (2 ^ 64)) (pushed w fs v) w fs (v * 10 + (b - 48)) p ps h
+resume-byte (Tab w fs) b p ps h = rw (number-along b p) (field-byte (digit b) w fs (b - 48) p ps)
+resume-byte (Digits w fs v) b p ps h = digits-byte (eqb b 9) (ltb 0 v and (digit b and ltb (v * 10 + (b - 48)) (2 ^ 64))) (pushed w fs v) w fs (v * 10 + (b - 48)) p ps h
 resume-byte Broken b p ps h = refl
 
 -- the newline
@@ -116,10 +104,9 @@ field-ends w (some fs) = refl
 field-ends w none = refl
 
 resume-end : (s : Reader) → finished s ≡ resume s [] []
-unfolding finished stepOf resume along fields push number plain _and_ pushed tabbed ended if_then_else_
+unfolding finished stepOf resume along digitsFrom fields push number plain _and_ pushed tabbed ended if_then_else_
 resume-end (Letters x) = word-ends (wordOf x)
 resume-end (Tab w fs) = field-ends w none
-resume-end (Nought w fs) = field-ends w (behind fs 0)
 resume-end (Digits w fs v) = field-ends w (behind fs v)
 resume-end Broken = refl
 

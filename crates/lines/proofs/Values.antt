@@ -1,15 +1,15 @@
 -- Laws of numbers that are read a digit at a time and refused as soon as they pass 2^64, in any base. Assumes nothing.
 use Prim.Native.Nat.{ℕ, _+_, _-_, _*_, _^_, _<_, _≤_}
-use mathlib.Core.Path.{_≡_, refl, sym}
+use mathlib.Core.Path.{_≡_, refl, sym, _∙_}
 use mathlib.Core.Bool.{Bool, true, false}
 use mathlib.Core.List.{List, [], _∷_}
 use mathlib.Core.Option.{Option, some, none}
 use native.Mathlib.Omega.{arith}
 use native.Mathlib.Nat.{le-trans, zero-add}
 use lib.Dec.{eqb, leb, ltb}
-use borrow.Author.Tests.{eqb-true, ltb-true, ltb-false, lt-ltb, le-ltb, leb-true}
+use borrow.Author.Tests.{eqb-true, eqb-false, ltb-true, ltb-false, lt-ltb, le-ltb, leb-true}
 use Rattle.bits.specs.Words.{_and_, if_then_else_}
-use Rattle.bits.proofs.Truth.{and-false, and-right}
+use Rattle.bits.proofs.Truth.{and-false, and-left, and-right}
 use Rattle.lines.specs.Bytes.{every, empty}
 use Rattle.lines.specs.Line.{digit, worth, plain, number}
 
@@ -60,15 +60,19 @@ unfolding total worth
 worth-total v [] = refl
 worth-total v (b ∷ l) = worth-total (v * 10 + (b - 48)) l
 
-abbrev pub digitsFrom : ℕ → List ℕ → Option ℕ
-digitsFrom = along digit 10 (λ b. b - 48) some none
+-- what a field is worth that goes on behind digits that are worth v: nothing may stand behind a 0
+unfoldable pub digitsFrom : ℕ → List ℕ → Option ℕ
+digitsFrom v [] = some v
+digitsFrom v (b ∷ p) = if_then_else_ (ltb 0 v and (digit b and ltb (v * 10 + (b - 48)) (2 ^ 64))) (digitsFrom (v * 10 + (b - 48)) p) none
 
-abbrev pub noughtThen : List ℕ → Option ℕ
-noughtThen [] = some 0
-noughtThen (b ∷ p) = none
+-- behind another digit this is a digit at a time
+digits-along : (v : ℕ) (p : List ℕ) → 0 < v → digitsFrom v p ≡ along digit 10 (λ b. b - 48) some none v p
+unfolding digitsFrom along _and_
+digits-along v [] h = refl
+digits-along v (b ∷ p) h = rw (lt-ltb 0 v h, digits-along (v * 10 + (b - 48)) p (omega arith))
 
-number-nought : (p : List ℕ) → number (48 ∷ p) ≡ noughtThen p
-unfolding number plain _and_ if_then_else_ empty worth
+number-nought : (p : List ℕ) → number (48 ∷ p) ≡ digitsFrom 0 p
+unfolding number plain digitsFrom _and_ if_then_else_ empty worth
 number-nought [] = refl
 number-nought (b ∷ p) = refl
 
@@ -80,16 +84,18 @@ number-digits : (b : ℕ) (p : List ℕ) → eqb b 48 ≡ false → digit b ≡ 
 unfolding number plain worth _and_ if_then_else_
 number-digits b p e f =
     let low : b ≤ 57 = leb-true b 57 (and-right (leb 48 b) (leb b 57) f) in
+    let high : 48 ≤ b = leb-true 48 b (and-left (leb 48 b) (leb b 57) f) in
+    let other : b ≡ 48 → ⊥ = eqb-false b 48 e in
     let fits : b - 48 < 2 ^ 64 = omega arith in
     let whole = along-total digit 10 (λ b. b - 48) (λ v b. omega arith) some none (b - 48) p fits in
-    simp (e, f, zero-add) (sym (rw (worth-total (b - 48) p) at whole))
+    simp (e, f, zero-add) (sym (rw (worth-total (b - 48) p) at whole)) ∙ sym (digits-along (b - 48) p (omega arith))
 
 -- a field a byte at a time
-pub number-along : (b : ℕ) (p : List ℕ) → number (b ∷ p) ≡ if_then_else_ (eqb b 48) (noughtThen p) (if_then_else_ (digit b) (digitsFrom (b - 48) p) none)
+pub number-along : (b : ℕ) (p : List ℕ) → number (b ∷ p) ≡ if_then_else_ (digit b) (digitsFrom (b - 48) p) none
 unfolding if_then_else_
 number-along b p = go (eqb b 48) (digit b) refl refl
   where
-    go : (z d : Bool) → eqb b 48 ≡ z → digit b ≡ d → number (b ∷ p) ≡ if_then_else_ z (noughtThen p) (if_then_else_ d (digitsFrom (b - 48) p) none)
-    go true d e f = rw (eqb-true b 48 e) (number-nought p)
+    go : (z d : Bool) → eqb b 48 ≡ z → digit b ≡ d → number (b ∷ p) ≡ if_then_else_ d (digitsFrom (b - 48) p) none
+    go true true e f = rw (eqb-true b 48 e) (number-nought p)
     go false true e f = number-digits b p e f
-    go false false e f = number-other b p f
+    go z false e f = number-other b p f

@@ -1,7 +1,9 @@
-// Reads a transcript's line one byte at a time.
+// Reads a transcript's lines in one pass: a usual line at once, and any other from where that left off, a byte at a time.
 ghost use mathlib.Core.Path.{_≡_};
-ghost use lib.ListN.{drop};
-ghost use Rattle.lines.specs.Reader.{wordOf, pushed, stepOf, ended, finished, fresh, fed};
+ghost use Prim.Native.Nat.{_+_, _≤_};
+ghost use lib.ListN.{drop, length};
+ghost use Rattle.lines.specs.Line.{digit};
+ghost use Rattle.lines.specs.Reader.{letter, wordOf, pushed, stepOf, ended, finished, fresh, fed, GoesOn, DigitsGoOn};
 
 // The words of both modes.
 pub enum Word {
@@ -51,18 +53,18 @@ pub enum Reader {
     Letters(u64),
     // Behind a tab.
     Tab(Word, Fields),
-    // Behind the digit 0 that began a field.
-    Nought(Word, Fields),
-    // In a field that began with another digit: what it is worth so far.
+    // Behind a field's digits: what they are worth so far. Behind the digit 0 that began it no other may stand.
     Digits(Word, Fields, u64),
     // The line is refused, whatever follows.
     Broken,
 }
 
-// What a block of input gave: a line is whole and the next one starts at a place, or the block is used up.
-pub enum Fed {
-    Whole(Reader, usize),
-    Used(Reader),
+// What a block of input gave: whether the line is whole, where the reader stands at its newline or at the block's end, and
+// the place behind that.
+pub struct Fed {
+    pub whole: bool,
+    pub reader: Reader,
+    pub next: usize,
 }
 
 // The word whose letters are packed in a number, a byte each and the first one highest: `run` is (114 * 256 + 117) * 256 + 110.
@@ -104,6 +106,26 @@ fn pushed_on(word: Word, fields: Fields, n: u64) -> Reader
     }
 }
 
+// a to z.
+fn is_letter(b: u8) -> bool
+    ensures { λ r. ⌜ r ≡ letter b ⌝ }
+{
+    if b < 97 {
+        return false;
+    }
+    b <= 122
+}
+
+// 0 to 9.
+fn is_digit(b: u8) -> bool
+    ensures { λ r. ⌜ r ≡ digit b ⌝ }
+{
+    if b < 48 {
+        return false;
+    }
+    b <= 57
+}
+
 // A byte as a word.
 fn wide(b: u8) -> u64
     ensures { λ r. ⌜ r ≡ b ⌝ }
@@ -131,10 +153,7 @@ impl Reader {
                         Spelled::Nothing => Reader::Broken,
                     };
                 }
-                if b < 97 {
-                    return Reader::Broken;
-                }
-                if 122 < b {
+                if !is_letter(b) {
                     return Reader::Broken;
                 }
                 if x < 72057594037927936 {
@@ -143,31 +162,19 @@ impl Reader {
                 Reader::Broken
             }
             Reader::Tab(w, fs) => {
-                if b == 48 {
-                    return Reader::Nought(w, fs);
-                }
-                if b < 48 {
-                    return Reader::Broken;
-                }
-                if 57 < b {
+                if !is_digit(b) {
                     return Reader::Broken;
                 }
                 Reader::Digits(w, fs, wide(b) - 48)
-            }
-            Reader::Nought(w, fs) => {
-                if b == 9 {
-                    return pushed_on(w, fs, 0);
-                }
-                Reader::Broken
             }
             Reader::Digits(w, fs, v) => {
                 if b == 9 {
                     return pushed_on(w, fs, v);
                 }
-                if b < 48 {
+                if v == 0 {
                     return Reader::Broken;
                 }
-                if 57 < b {
+                if !is_digit(b) {
                     return Reader::Broken;
                 }
                 if v < 1844674407370955161 {
@@ -191,7 +198,6 @@ impl Reader {
         match self {
             Reader::Letters(x) => x == 0,
             Reader::Tab(_, _) => false,
-            Reader::Nought(_, _) => false,
             Reader::Digits(_, _, _) => false,
             Reader::Broken => false,
         }
@@ -207,14 +213,14 @@ impl Reader {
                 Spelled::Nothing => Line::Refused,
             },
             Reader::Tab(_, _) => Line::Refused,
-            Reader::Nought(w, fs) => closed(w, fs, 0),
             Reader::Digits(w, fs, n) => closed(w, fs, n),
             Reader::Broken => Line::Refused,
         }
     }
 }
 
-// The line that ends behind one more field. (finish does not call step, so that step stands in feed's loop only and is compiled into it.)
+// The line that ends behind one more field. (finish does not call step, so that step stands in one loop only and is compiled
+// into it.)
 fn closed(word: Word, fields: Fields, n: u64) -> Line
     ensures { λ r. ⌜ r ≡ ended (pushed word fields n) ⌝ }
 {
@@ -226,8 +232,8 @@ fn closed(word: Word, fields: Fields, n: u64) -> Line
     }
 }
 
-// Reads block from at to the line's newline, or to its end.
-pub fn feed(r: Reader, block: &[u8], at: usize) -> Fed
+// Reads block from at to the line's newline, or to its end, a byte at a time.
+fn read_on(r: Reader, block: &[u8], at: usize) -> Fed
     ensures { λ s. ⌜ s ≡ fed r (drop at (now (block .entry))) at ⌝ }
 {
     let mut s = r;
@@ -235,10 +241,170 @@ pub fn feed(r: Reader, block: &[u8], at: usize) -> Fed
     while i < block.len() {
         let b = block[i];
         if b == 10 {
-            return Fed::Whole(s, i + 1);
+            return Fed {
+                whole: true,
+                reader: s,
+                next: i + 1,
+            };
         }
         s = s.step(b);
         i += 1;
     }
-    Fed::Used(s)
+    Fed {
+        whole: false,
+        reader: s,
+        next: i,
+    }
+}
+
+// ---- A usual line: a word, and up to three numbers of up to 19 digits. Where it stops, or is no usual line, the reader is
+// handed on as it stands there.
+
+// The room for a usual line: 8 letters, three times 19 digits, and a byte behind each. (With so much left of the block its end
+// is not looked for.)
+const ROOM: usize = 69;
+
+// What bytes of a block are worth, and the place behind them.
+struct Taken {
+    value: u64,
+    next: usize,
+}
+
+// Where in a block the reader stands.
+struct Reached {
+    reader: Reader,
+    next: usize,
+}
+
+// The letters from a line's start on.
+fn letters(block: &[u8], at: usize) -> Taken
+    requires { ⌜ at + 8 ≤ length (now block) ⌝ }
+    ensures goes { λ r. ⌜ GoesOn (now (block .entry)) (Reader.Letters 0) at (Reader.Letters (r .value)) (r .next) ⌝ }
+    ensures short { λ r. ⌜ r .next ≤ at + 8 ⌝ }
+{
+    let mut x = 0;
+    for i in at..at + 8 {
+        let b = block[i];
+        if !is_letter(b) {
+            return Taken { value: x, next: i };
+        }
+        x = x * 256 + wide(b);
+    }
+    Taken {
+        value: x,
+        next: at + 8,
+    }
+}
+
+// The digits behind a field's first one.
+fn digits(block: &[u8], at: usize, first: u64) -> Taken
+    requires { ⌜ (at + 18 ≤ length (now block)) × (first ≤ 9) ⌝ }
+    ensures goes { λ r. ⌜ DigitsGoOn (now (block .entry)) first at (r .value) (r .next) ⌝ }
+    ensures short { λ r. ⌜ r .next ≤ at + 18 ⌝ }
+{
+    if first == 0 {
+        return Taken { value: 0, next: at };
+    }
+    let mut v = first;
+    for i in at..at + 18 {
+        let b = block[i];
+        if !is_digit(b) {
+            return Taken { value: v, next: i };
+        }
+        v = v * 10 + (wide(b) - 48);
+    }
+    Taken {
+        value: v,
+        next: at + 18,
+    }
+}
+
+// A number behind a tab and the tab behind it. A reader that stands elsewhere stays there.
+fn field(s: Reader, block: &[u8], at: usize) -> Reached
+    requires { ⌜ at + 20 ≤ length (now block) ⌝ }
+    ensures goes { λ r. ⌜ GoesOn (now (block .entry)) s at (r .reader) (r .next) ⌝ }
+    ensures short { λ r. ⌜ r .next ≤ at + 20 ⌝ }
+{
+    match s {
+        Reader::Tab(w, fs) => {
+            let b = block[at];
+            if !is_digit(b) {
+                return Reached {
+                    reader: s,
+                    next: at,
+                };
+            }
+            let n = digits(block, at + 1, wide(b) - 48);
+            let v = n.value;
+            let j = n.next;
+            if block[j] != 9 {
+                return Reached {
+                    reader: Reader::Digits(w, fs, v),
+                    next: j,
+                };
+            }
+            Reached {
+                reader: pushed_on(w, fs, v),
+                next: j + 1,
+            }
+        }
+        _ => Reached {
+            reader: s,
+            next: at,
+        },
+    }
+}
+
+// The numbers behind a word and its tab.
+fn numbers(w: Word, block: &[u8], at: usize) -> Reached
+    requires { ⌜ at + 60 ≤ length (now block) ⌝ }
+    ensures { λ r. ⌜ GoesOn (now (block .entry)) (Reader.Tab w Fields.Without) at (r .reader) (r .next) ⌝ }
+{
+    let first = field(Reader::Tab(w, Fields::Without), block, at);
+    let s = first.reader;
+    let i = first.next;
+    let second = field(s, block, i);
+    let t = second.reader;
+    let j = second.next;
+    field(t, block, j)
+}
+
+// A usual line from its first byte on.
+fn usual(block: &[u8], at: usize) -> Reached
+    requires { ⌜ at + 69 ≤ length (now block) ⌝ }
+    ensures { λ r. ⌜ GoesOn (now (block .entry)) (Reader.Letters 0) at (r .reader) (r .next) ⌝ }
+{
+    let t = letters(block, at);
+    let x = t.value;
+    let i = t.next;
+    if block[i] != 9 {
+        return Reached {
+            reader: Reader::Letters(x),
+            next: i,
+        };
+    }
+    match word_of(x) {
+        Spelled::As(w) => numbers(w, block, i + 1),
+        Spelled::Nothing => Reached {
+            reader: Reader::Broken,
+            next: i + 1,
+        },
+    }
+}
+
+// Reads block from at to the line's newline, or to its end.
+pub fn feed(r: Reader, block: &[u8], at: usize) -> Fed
+    ensures { λ s. ⌜ s ≡ fed r (drop at (now (block .entry))) at ⌝ }
+{
+    if r.is_fresh() {
+        if ROOM <= block.len() {
+            if at <= block.len() - ROOM {
+                let q = usual(block, at);
+                let s = q.reader;
+                let i = q.next;
+                return read_on(s, block, i);
+            }
+        }
+    }
+    read_on(r, block, at)
 }

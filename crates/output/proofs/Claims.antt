@@ -9,8 +9,9 @@ use Rattle.bits.specs.Words.{if_then_else_}
 use Rattle.lines.specs.Bytes.{tab, every}
 use Rattle.lines.specs.Line.{first, others, digit, behind, push, fields}
 use Rattle.lines.specs.declared.Fields.the-variants.{Without, Three}
-use Rattle.output.specs.Text.{decimal, column, row}
-use Rattle.output.specs.Claims.{DecimalRead, RowRead}
+use Rattle.output.specs.Text.{decimal, column, rowOf, row}
+use Rattle.output.specs.Claims.{DecimalRead, CountedUp, RowRead}
+use Rattle.output.proofs.Counting.{decimal-next}
 use Rattle.output.proofs.Reading.{text-read, text-digits, first-digits, others-digits}
 
 pub decimal-read : DecimalRead
@@ -21,8 +22,11 @@ decimal-digits : (n : ℕ) → n < 2 ^ 64 → every digit (decimal n) ≡ true
 unfolding decimal
 decimal-digits n h = text-digits _ n (omega arith) (omega arith)
 
+pub counted-up : CountedUp
+counted-up = decimal-next
+
 pub row-read : RowRead
-unfolding row column first others fields push behind if_then_else_
+unfolding row rowOf column first others fields push behind if_then_else_
 row-read n a s h i j = (whole, simp append-assoc, parted)
   where
     end : List ℕ

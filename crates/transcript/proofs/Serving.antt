@@ -10,13 +10,13 @@ use lib.ListN.{length, drop, length-drop, length-append, drop-of-length-le}
 use lib.Seq.{sets, drop-drop}
 use borrow.Author.Tests.{eq-eqb, ne-eqb, lt-ltb, le-ltb}
 use Rattle.bits.specs.Words.{_and_, if_then_else_}
-use Rattle.bits.proofs.Truth.{if-true, if-false, or-left, or-right, false-or}
+use Rattle.bits.proofs.Truth.{clash, if-true, if-false, or-left, or-right, false-or}
 use Rattle.roles.specs.Request.{Outcome}
 use Rattle.lines.specs.Reader.{stepOf, finished, fresh, fed}
 use Rattle.lines.specs.declared.Line.{Line}
 use Rattle.lines.specs.declared.Reader.{Reader}
 use Rattle.lines.specs.declared.Reader.the-variants.{Letters}
-use Rattle.lines.specs.declared.Fed.the-variants.{Whole, Used}
+use Rattle.lines.specs.declared.Fed.{Fed}
 use Rattle.output.specs.Text.{row, rowRoom, fitting, Wrote}
 use Rattle.output.proofs.Writing.{length-row, wrote-row, sets-append}
 use Rattle.entries.specs.declared.Fault.the-variants.{WrongForm}
@@ -52,23 +52,27 @@ module _ (G : Guards) (room : ℕ) where
 
   -- ---- no newline
 
-  serving-used : (p : Standing) (l : List ℕ) (at : ℕ) (s : Reader) → fed (p .reader) l at ≡ Used s
-      → serving G room false p l ≡ record { stands = reading p s; read = length l; wrote = [] }
+  serving-used : (p : Standing) (l : List ℕ) (at : ℕ) → fed (p .reader) l at .whole ≡ false
+      → serving G room false p l ≡ record { stands = reading p (fed (p .reader) l at .reader); read = length l; wrote = [] }
   unfolding fed serving _and_ if_then_else_
-  serving-used p [] at s h =
-      let e : p .reader ≡ s = cc in
-      ap (λ (x : Reader). halt (reading p x)) e
-  serving-used p (b ∷ l) at s h = go (eqb b 10) h (λ k. serving-used (reading p (stepOf (p .reader) b)) l (at + 1) s k)
+  serving-used p [] at h = refl
+  serving-used p (b ∷ l) at h = go (eqb b 10) h (λ k. serving-used (reading p (stepOf (p .reader) b)) l (at + 1) k)
     where
-      go : (t : Bool) → if_then_else_ t (Whole (p .reader) (at + 1)) (fed (stepOf (p .reader) b) l (at + 1)) ≡ Used s
-          → (fed (stepOf (p .reader) b) l (at + 1) ≡ Used s
-          → serving G room false (reading p (stepOf (p .reader) b)) l ≡ record { stands = reading p s; read = length l; wrote = [] })
+      rest : Fed
+      rest = fed (stepOf (p .reader) b) l (at + 1)
+
+      found : Bool → Fed
+      found t = if_then_else_ t (record { whole = true; reader = p .reader; next = at + 1 }) rest
+
+      go : (t : Bool) → found t .whole ≡ false
+          → (rest .whole ≡ false
+          → serving G room false (reading p (stepOf (p .reader) b)) l ≡ record { stands = reading p (rest .reader); read = length l; wrote = [] })
           → if_then_else_ t (ahead 1 (reply G p (p .reader)) (serving G (room - length (reply G p (p .reader))) true (replied G p (p .reader)) l))
           (ahead 1 [] (serving G room false (reading p (stepOf (p .reader) b)) l))
-          ≡ record { stands = reading p s; read = suc (length l); wrote = [] }
-      go true k ih = let z : _≡_ {A = ℕ} 0 1 = cc in absurd (omega arith)
+          ≡ record { stands = reading p (found t .reader); read = suc (length l); wrote = [] }
+      go true k ih = clash {b = true} refl k
       go false k ih =
-          ap (ahead 1 []) (ih k) ∙ ap (λ (n : ℕ). record { stands = reading p s; read = n; wrote = [] }) (omega arith)
+          ap (ahead 1 []) (ih k) ∙ ap (λ (n : ℕ). record { stands = reading p (rest .reader); read = n; wrote = [] }) (omega arith)
 
   -- ---- a newline
 
@@ -78,33 +82,32 @@ module _ (G : Guards) (room : ℕ) where
       (k : ℕ) × (next ≡ at + suc k) × (suc k ≤ length l)
       × (stop ≡ ahead (suc k) (reply G p s) (serving G (room - length (reply G p s)) true (replied G p s) (drop (suc k) l)))
 
-  serving-line : (p : Standing) (l : List ℕ) (at : ℕ) (s : Reader) (next : ℕ) → fed (p .reader) l at ≡ Whole s next → Ends (serving G room false p l) p l at s next
+  serving-line : (p : Standing) (l : List ℕ) (at : ℕ) → fed (p .reader) l at .whole ≡ true
+      → Ends (serving G room false p l) p l at (fed (p .reader) l at .reader) (fed (p .reader) l at .next)
   unfolding fed serving _and_ if_then_else_
-  serving-line p [] at s next h = let z : _≡_ {A = ℕ} 0 1 = cc in absurd (omega arith)
-  serving-line p (b ∷ l) at s next h = go (eqb b 10) h (λ k. serving-line (reading p (stepOf (p .reader) b)) l (at + 1) s next k)
+  serving-line p [] at h = clash {b = true} refl (sym h)
+  serving-line p (b ∷ l) at h = go (eqb b 10) h (λ k. serving-line (reading p (stepOf (p .reader) b)) l (at + 1) k)
     where
-      go : (t : Bool) → if_then_else_ t (Whole (p .reader) (at + 1)) (fed (stepOf (p .reader) b) l (at + 1)) ≡ Whole s next
-          → (fed (stepOf (p .reader) b) l (at + 1) ≡ Whole s next
-          → Ends (serving G room false (reading p (stepOf (p .reader) b)) l) (reading p (stepOf (p .reader) b)) l (at + 1) s next)
+      rest : Fed
+      rest = fed (stepOf (p .reader) b) l (at + 1)
+
+      found : Bool → Fed
+      found t = if_then_else_ t (record { whole = true; reader = p .reader; next = at + 1 }) rest
+
+      go : (t : Bool) → found t .whole ≡ true
+          → (rest .whole ≡ true → Ends (serving G room false (reading p (stepOf (p .reader) b)) l) (reading p (stepOf (p .reader) b)) l (at + 1) (rest .reader) (rest .next))
           → Ends (if_then_else_ t (ahead 1 (reply G p (p .reader)) (serving G (room - length (reply G p (p .reader))) true (replied G p (p .reader)) l))
-          (ahead 1 [] (serving G room false (reading p (stepOf (p .reader) b)) l))) p (b ∷ l) at s next
-      go true k ih =
-          let e : p .reader ≡ s = cc in
-          let n : at + 1 ≡ next = cc in (
-            0,
-            omega arith,
-            omega arith,
-            ap (λ (x : Reader). ahead 1 (reply G p x) (serving G (room - length (reply G p x)) true (replied G p x) l)) e,
-          )
+          (ahead 1 [] (serving G room false (reading p (stepOf (p .reader) b)) l))) p (b ∷ l) at (found t .reader) (found t .next)
+      go true k ih = (0, refl, omega arith, refl)
       go false k ih =
           let w = ih k in (
             suc (w .0),
             omega (arith, w .1),
             omega (arith, w .2),
             ap (ahead 1 []) (w .3) ∙ ap (λ (n : ℕ). record {
-              stands = serving G (room - length (reply G p s)) true (replied G p s) (drop (suc (w .0)) l) .stands;
+              stands = serving G (room - length (reply G p (rest .reader))) true (replied G p (rest .reader)) (drop (suc (w .0)) l) .stands;
               read = n;
-              wrote = reply G p s ++ serving G (room - length (reply G p s)) true (replied G p s) (drop (suc (w .0)) l) .wrote;
+              wrote = reply G p (rest .reader) ++ serving G (room - length (reply G p (rest .reader))) true (replied G p (rest .reader)) (drop (suc (w .0)) l) .wrote;
             }) (omega arith),
           )
 
@@ -162,9 +165,10 @@ module _ {G : Guards} {stop : Stop} {at : ℕ} {out₀ : List ℕ} {p : Standing
     opened = serving-open G _ p (drop i block) (not-full _ _ space more)
 
     -- the block is used up
-    pub far-used : {s : Reader} → i ≤ length block → fed (p .reader) (drop i block) i ≡ Used s → IsServed stop at out₀ (reading p s) (length block) o out
-    far-used {s} b h =
-        let e = far .rest ∙ ap (ahead (far .passed) (far .written)) (opened ∙ serving-used G _ p (drop i block) i s h) in
+    pub far-used : {f : Fed} → i ≤ length block → f ≡ fed (p .reader) (drop i block) i → f .whole ≡ false → IsServed stop at out₀ (reading p (f .reader)) (length block) o out
+    far-used {f} b g h =
+        let cut = serving-used G (length out - o) p (drop i block) i (sym (ap (λ (u : Fed). u .whole) g) ∙ h) in
+        let e = far .rest ∙ ap (ahead (far .passed) (far .written)) (opened ∙ cut ∙ ap (λ (u : Fed). record { stands = reading p (u .reader); read = length (drop i block); wrote = [] }) (sym g)) in
         let w = ap (λ (u : Stop). u .wrote) e ∙ append-nil (far .written) in
         record {
           stands-is = sym (ap (λ (s : Stop). s .stands) e);
@@ -174,20 +178,29 @@ module _ {G : Guards} {stop : Stop} {at : ℕ} {out₀ : List ℕ} {p : Standing
           within = far .room;
         }
 
+    -- a line ends in the block
+    line-ends : {f : Fed} → f ≡ fed (p .reader) (drop i block) i → f .whole ≡ true
+        → Ends G (length out - o) (serving G (length out - o) false p (drop i block)) p (drop i block) i (f .reader) (f .next)
+    line-ends {f} g h =
+        let here = serving-line G (length out - o) p (drop i block) i (sym (ap (λ (u : Fed). u .whole) g) ∙ h) in
+        rw g here
+
     -- the next line starts behind this one, in the block
-    pub far-next : {s : Reader} {next : ℕ} → i ≤ length block → fed (p .reader) (drop i block) i ≡ Whole s next → (i < next) × (next ≤ length block)
-    far-next {s} {next} b h =
-        let w = serving-line G (length out - o) p (drop i block) i s next h in
+    pub far-next : {f : Fed} → i ≤ length block → f ≡ fed (p .reader) (drop i block) i → f .whole ≡ true → (i < f .next) × (f .next ≤ length block)
+    far-next {f} b g h =
+        let w = line-ends g h in
         let left : suc (w .0) ≤ length block - i = rw (length-drop i block) at (w .2) in
         (omega (arith, w .1), omega (arith, w .1, left))
 
     -- a line ends, and its row is written
-    pub far-row : {s : Reader} {next : ℕ} {line : Line} {a n : ℕ} {d : Store} {r : Reader} {out′ : List ℕ} {o′ : ℕ}
-        → fed (p .reader) (drop i block) i ≡ Whole s next → line ≡ finished s → outcome a n d ≡ step G (p .kept) line → r ≡ Letters 0
+    pub far-row : {u : Fed} {line : Line} {a n : ℕ} {d : Store} {r : Reader} {out′ : List ℕ} {o′ : ℕ}
+        → u ≡ fed (p .reader) (drop i block) i → u .whole ≡ true → line ≡ finished (u .reader) → outcome a n d ≡ step G (p .kept) line → r ≡ Letters 0
         → Wrote out o (fitting out o (row (p .number) a n)) out′ o′ → length out′ ≡ length out
-        → Far G stop at out₀ (record { kept = d; number = p .number + 1; reader = r }) block next out′ o′
-    far-row {s} {next} {line} {a} {n} {d} {r} {out′} {o′} h e c f w k =
-        let x = serving-line G (length out - o) p (drop i block) i s next h in
+        → Far G stop at out₀ (record { kept = d; number = p .number + 1; reader = r }) block (u .next) out′ o′
+    far-row {u} {line} {a} {n} {d} {r} {out′} {o′} g h e c f w k =
+        let s = u .reader in
+        let next = u .next in
+        let x = line-ends g h in
         let came : outcome a n d ≡ step G (p .kept) (finished s) = c ∙ ap (step G (p .kept)) e in
         let stood : replied G p s ≡ record { kept = d; number = p .number + 1; reader = r } =
         ap₂ (λ (u : Outcome Store) (q : Reader). record { kept = u .state; number = p .number + 1; reader = q }) (sym came) (sym f) in

@@ -1,7 +1,6 @@
 // Transcripts in blocks of input and output.
 use entries::Fault;
 use entries::Phase;
-use lines::Fed;
 use lines::Reader;
 use output::ROW;
 ghost use mathlib.Core.Path.{_≡_};
@@ -57,6 +56,8 @@ pub fn serve(
     let mut reader = p.reader;
     let mut i = at;
     let mut o: usize = 0;
+    let mut digits = [0u8; 21];
+    let mut width = output::put_number(&mut digits, number);
     while i < block.len() {
         if out.len() - o < ROW {
             return Served {
@@ -80,35 +81,35 @@ pub fn serve(
                 used: o,
             };
         }
-        match lines::feed(reader, block, i) {
-            Fed::Used(r) => {
-                return Served {
-                    progress: Progress {
-                        phase: phase,
-                        number: number,
-                        reader: r,
-                    },
-                    next: block.len(),
-                    used: o,
-                };
-            }
-            Fed::Whole(r, next) => {
-                let reply = ledger::act(
-                    phase,
-                    r.finish(),
-                    table,
-                    juniors,
-                    permissions,
-                    clearances,
-                    labels,
-                );
-                o = output::put_row(out, o, number, reply.answer, reply.spent);
-                phase = reply.phase;
-                number += 1;
-                reader = Reader::new();
-                i = next;
-            }
+        let fed = lines::feed(reader, block, i);
+        let r = fed.reader;
+        let next = fed.next;
+        if !fed.whole {
+            return Served {
+                progress: Progress {
+                    phase: phase,
+                    number: number,
+                    reader: r,
+                },
+                next: block.len(),
+                used: o,
+            };
         }
+        let reply = ledger::act(
+            phase,
+            r.finish(),
+            table,
+            juniors,
+            permissions,
+            clearances,
+            labels,
+        );
+        o = output::put_numbered(out, o, &digits, width, reply.answer, reply.spent);
+        width = output::count_up(&mut digits, width);
+        phase = reply.phase;
+        number += 1;
+        reader = Reader::new();
+        i = next;
     }
     Served {
         progress: Progress {

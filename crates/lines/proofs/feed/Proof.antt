@@ -1,74 +1,24 @@
 -- `feed` meets its contract. Assumes nothing.
 use borrow.Author.Needs.{needs}
-use Prim.Native.Nat.{_-_}
-use mathlib.Core.Path.{_≡_, _∙_, sym}
-use borrow.Author.Tests.{eq-eqb, ne-eqb}
-use native.Mathlib.Numerals.{add-one}
-use lib.Seq.{drop-cons}
-use lib.ListN.{drop-of-length-le, length, drop}
-use denote.Ref.{now}
-use Rattle.bits.specs.Words.{if_then_else_}
-use Rattle.lines.specs.Reader.{fed}
+use mathlib.Core.Path.{sym, _∙_}
+use Rattle.lines.proofs.Fresh.{fresh-new}
+use Rattle.lines.proofs.Going.{same-on}
 use Rattle.lines.proofs.feed.Statement.{statement}
 use Rattle.lines.proofs.feed.Tie as tie
 
-abbrev Inv-loop : tie.InvT-loop
-Inv-loop block at s₀ i₀ s i = fed s (drop i block) i ≡ fed s₀ (drop at block) at
-
-abbrev μ-loop : tie.MeasureT-loop
-μ-loop block at s₀ i₀ s i = length block - i
-
-loop-holds : tie.Need-loop-holds Inv-loop μ-loop
-loop-holds c = search needs
-
-shared-slice-read-b : tie.Need-shared-slice-read-b Inv-loop μ-loop
-shared-slice-read-b c = search needs
-
-add-t11 : tie.Need-add-t11 Inv-loop μ-loop
-add-t11 c = search needs
-
-returns : tie.Need-returns Inv-loop μ-loop
-unfolding fed if_then_else_
+returns : tie.Need-returns
 returns c =
-    let l = now (c .before .before .before .before .before .args .block) in
-    let i = c .before .before .before .loop .i in
-    sym (rw (drop-cons l i 0 (c .before .before .loop-test .taken)) (simp (eq-eqb _ _ (c .if1 .taken)))) ∙ c .before .before .before .loop .inv
-
-step-requires : tie.Need-step-requires Inv-loop μ-loop
-step-requires c κs = search needs
-
-add-i : tie.Need-add-i Inv-loop μ-loop
-add-i c = search needs
-
-loop-less : tie.Need-loop-less Inv-loop μ-loop
-loop-less c = search needs
-
-loop-again : tie.Need-loop-again Inv-loop μ-loop
-unfolding fed if_then_else_
-loop-again c =
-    let l = now (c .before .before .before .before .before .before .args .block) in
-    let i = c .before .before .before .before .loop .i in
-    rw (c .step .ensures, add-one i)
-    (sym (rw (drop-cons l i 0 (c .before .before .before .loop-test .taken)) (simp (ne-eqb _ _ (c .before .if1 .left), add-one)))
-    ∙ c .before .before .before .before .loop .inv)
-
-returns-2 : tie.Need-returns-2 Inv-loop μ-loop
-unfolding fed if_then_else_
-returns-2 c =
-    sym (rw (drop-of-length-le (now (c .before .before .before .args .block)) (c .loop-test .left))) ∙ c .before .loop .inv
+    let a = c .before .before .before .before .before .before .before .args in
+    c .read-on .ensures ∙ sym (c .before .usual .ensures) ∙ sym (same-on (a .block .now) (a .at) (fresh-new (a .r) (sym (c .before .before .before .before .before .is-fresh .ensures) ∙ c .before .before .before .before .if1 .taken)))
 
 pub feed-spec : {M : Type 1} → statement M
 feed-spec =
     tie.close
     (tie.spec
-    Inv-loop
-    μ-loop
-    loop-holds
-    shared-slice-read-b
-    add-t11
+    (λ c κs. search needs)
+    (λ c. search needs)
+    (λ c κs. search needs)
+    (λ c κs. search needs)
     returns
-    step-requires
-    add-i
-    loop-less
-    loop-again
-    returns-2)
+    (λ c κs. search needs)
+    (λ c. search needs))

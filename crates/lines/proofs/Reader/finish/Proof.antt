@@ -26,12 +26,6 @@ enum-known-self-2 c = search needs
 closed-requires : tie.Need-closed-requires
 closed-requires c κs = search needs
 
-enum-known-self-3 : tie.Need-enum-known-self-3
-enum-known-self-3 c = search needs
-
-closed-requires-2 : tie.Need-closed-requires-2
-closed-requires-2 c κs = search needs
-
 enum-told-3 : tie.Need-enum-told-3
 enum-told-3 c = search needs
 
@@ -53,11 +47,7 @@ returns-4 c = rw (c .before .before .self2 .given .1) (c .closed .ensures)
 
 returns-5 : tie.Need-returns-5
 unfolding finished stepOf ended begun _and_ if_then_else_
-returns-5 c = rw (c .before .before .self3 .given .1) (c .closed2 .ensures)
-
-returns-6 : tie.Need-returns-6
-unfolding finished stepOf ended begun _and_ if_then_else_
-returns-6 c = rw (c .enum-told3 .given .1)
+returns-5 c = rw (c .enum-told3 .given .1)
 
 pub finish-spec : {M : Type 1} → statement M
 finish-spec =
@@ -70,12 +60,9 @@ finish-spec =
     enum-told-2
     enum-known-self-2
     closed-requires
-    enum-known-self-3
-    closed-requires-2
     enum-told-3
     returns
     returns-2
     returns-3
     returns-4
-    returns-5
-    returns-6)
+    returns-5)

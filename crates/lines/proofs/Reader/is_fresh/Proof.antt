@@ -16,9 +16,6 @@ enum-told-2 c = search needs
 enum-told-3 : tie.Need-enum-told-3
 enum-told-3 c = search needs
 
-enum-told-4 : tie.Need-enum-told-4
-enum-told-4 c = search needs
-
 returns : tie.Need-returns
 unfolding fresh
 returns c = rw (c .before .self .given .1)
@@ -35,10 +32,6 @@ returns-4 : tie.Need-returns-4
 unfolding fresh
 returns-4 c = rw (c .enum-told3 .given .1)
 
-returns-5 : tie.Need-returns-5
-unfolding fresh
-returns-5 c = rw (c .enum-told4 .given .1)
-
 pub is-fresh-spec : {M : Type 1} → statement M
 is-fresh-spec =
     tie.close
@@ -47,9 +40,7 @@ is-fresh-spec =
     enum-told
     enum-told-2
     enum-told-3
-    enum-told-4
     returns
     returns-2
     returns-3
-    returns-4
-    returns-5)
+    returns-4)

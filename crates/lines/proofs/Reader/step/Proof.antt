@@ -1,236 +1,129 @@
 -- `step` meets its contract. Assumes nothing.
 use borrow.Author.Needs.{needs}
-use borrow.Author.Tests.{ne-eqb, le-leb, lt-leb, lt-ltb, le-ltb}
-use native.Mathlib.Omega.{arith}
 use Prim.Native.Nat.{_+_, _*_, _-_, _^_, _<_, _≤_}
-use Rattle.bits.specs.Words.{_and_, if_then_else_}
+use mathlib.Core.Path.{sym}
+use native.Mathlib.Omega.{arith}
+use Rattle.bits.specs.Words.{if_then_else_}
+use Rattle.bits.proofs.Truth.{confirmed, refuted}
 use Rattle.lines.specs.Reader.{stepOf, begun}
+use Rattle.lines.proofs.Stepping.{digit-least, digit-most, letter-step, letter-none, letter-over, field-step, field-none, digit-step, nought-step, digit-none, digit-over}
 use Rattle.lines.proofs.Reader.step.Statement.{statement}
 use Rattle.lines.proofs.Reader.step.Tie as tie
 
-enum-known-self : tie.Need-enum-known-self
-enum-known-self c = search needs
+-- ---- in the word
 
-word-of-requires : tie.Need-word-of-requires
-word-of-requires c κs = search needs
+word-ends : tie.Need-returns
+unfolding stepOf if_then_else_ begun
+word-ends c = rw (c .before .before .before .before .before .before .self .given .1, c .before .before .before .before .if1 .taken, ← c .before .before .before .word-of .ensures, c .before .w .given .1)
 
-enum-known-w : tie.Need-enum-known-w
-enum-known-w c = search needs
+no-word : tie.Need-returns-2
+unfolding stepOf if_then_else_ begun
+no-word c = rw (c .before .before .before .before .before .self .given .1, c .before .before .before .if1 .taken, ← c .before .before .word-of .ensures, c .enum-told .given .1)
 
-enum-told : tie.Need-enum-told
-enum-told c = search needs
+no-letter : tie.Need-returns-3
+no-letter c = rw (c .before .before .before .before .self .given .1) (sym (letter-none _ _ (c .before .before .if1 .left) (refuted (c .before .is-letter .ensures) (c .if2 .taken))))
 
-returns : tie.Need-returns
-unfolding stepOf _and_ if_then_else_ begun
-returns c = rw (c .before .before .before .before .before .before .self .given .1, c .before .before .before .before .if1 .taken, ← c .before .before .before .word-of .ensures, c .before .w .given .1)
+letter-more : tie.Need-returns-4
+letter-more c =
+    let small = c .before .before .before .before .before .before .before .before .fits .b .fits in
+    rw (c .before .before .before .before .before .before .self .given .1, c .wide .ensures) (sym (letter-step _ _ (confirmed (c .before .before .before .is-letter .ensures) (c .before .before .if2 .left)) (omega arith)))
 
-returns-2 : tie.Need-returns-2
-unfolding stepOf _and_ if_then_else_ begun
-returns-2 c = rw (c .before .before .before .before .before .self .given .1, c .before .before .before .if1 .taken, ← c .before .before .word-of .ensures, c .enum-told .given .1)
+too-long : tie.Need-returns-11
+too-long c = rw (c .before .before .before .before .before .self .given .1) (sym (letter-over _ _ (c .before .before .before .if1 .left) (omega arith)))
 
-returns-3 : tie.Need-returns-3
-unfolding stepOf _and_ if_then_else_
-returns-3 c = rw (c .before .before .before .self .given .1) (simp (ne-eqb _ _ (c .before .if1 .left), lt-leb _ _ (c .if2 .taken)))
+-- ---- in a field
 
-returns-4 : tie.Need-returns-4
-unfolding stepOf _and_ if_then_else_
-returns-4 c = rw (c .before .before .before .before .self .given .1) (simp (ne-eqb _ _ (c .before .before .if1 .left), le-leb _ _ (c .before .if2 .left), lt-leb _ _ (c .if3 .taken)))
+no-field : tie.Need-returns-5
+no-field c = rw (c .before .before .before .self2 .given .1) (sym (field-none _ _ _ (refuted (c .before .is-digit .ensures) (c .if4 .taken))))
 
-mul-t17 : tie.Need-mul-t17
-mul-t17 c = search needs
+first-digit : tie.Need-sub-t22
+first-digit c = rw (c .wide2 .ensures) (digit-least _ (confirmed (c .before .before .is-digit .ensures) (c .before .if4 .left)))
 
-wide-requires : tie.Need-wide-requires
-wide-requires c κs = search needs
+field-begins : tie.Need-returns-12
+field-begins c = rw (c .before .before .before .before .self2 .given .1, c .wide2 .ensures) (sym (field-step _ _ _ (confirmed (c .before .before .is-digit .ensures) (c .before .if4 .left))))
 
-add-t19 : tie.Need-add-t19
-add-t19 c = search needs
+field-ends : tie.Need-returns-6
+unfolding stepOf if_then_else_
+field-ends c = rw (c .before .before .before .self3 .given .1, c .before .if5 .taken) (c .pushed-on .ensures)
 
-returns-5 : tie.Need-returns-5
-unfolding stepOf _and_ if_then_else_
-returns-5 c =
-    let x = c .before .before .before .before .before .before .self .given .0 .0 in
-    let b = c .before .before .before .before .before .before .before .before .args .b in
-    let h : x * 256 + b < 2 ^ 64 = omega (arith, c .before .before .before .before .before .before .before .before .fits .b .fits) in
-    rw (c .before .before .before .before .before .before .self .given .1, c .wide .ensures)
-    (simp (ne-eqb _ _ (c .before .before .before .before .if1 .left), le-leb _ _ (c .before .before .before .if2 .left), le-leb _ _ (c .before .before .if3 .left), lt-ltb _ _ h))
+behind-nought : tie.Need-returns-7
+behind-nought c = rw (c .before .before .before .self3 .given .1) (sym (nought-step _ _ _ _ (c .before .if5 .left) (c .if6 .taken)))
 
-enum-known-self-2 : tie.Need-enum-known-self-2
-enum-known-self-2 c = search needs
+no-digit : tie.Need-returns-8
+no-digit c = rw (c .before .before .before .before .before .self3 .given .1) (sym (digit-none _ _ _ _ (c .before .before .before .if5 .left) (refuted (c .before .is-digit2 .ensures) (c .if7 .taken))))
 
-returns-6 : tie.Need-returns-6
-unfolding stepOf _and_ if_then_else_
-returns-6 c = rw (c .before .before .self2 .given .1, c .if5 .taken)
+digit-3 : tie.Need-sub-t27
+digit-3 c = rw (c .wide3 .ensures) (digit-least _ (confirmed (c .before .before .before .is-digit2 .ensures) (c .before .before .if7 .left)))
 
-returns-7 : tie.Need-returns-7
-unfolding stepOf _and_ if_then_else_
-returns-7 c = rw (c .before .before .before .self2 .given .1) (simp (ne-eqb _ _ (c .before .if5 .left), lt-leb _ _ (c .if6 .taken)))
+add-3 : tie.Need-add-t28
+add-3 c =
+    let high : c .before .before .before .before .before .before .before .before .before .args .b ≤ 57 = digit-most _ (confirmed (c .before .before .before .is-digit2 .ensures) (c .before .before .if7 .left)) in
+    rw (c .wide3 .ensures) (record { fits = omega arith })
 
-returns-8 : tie.Need-returns-8
-unfolding stepOf _and_ if_then_else_
-returns-8 c = rw (c .before .before .before .before .self2 .given .1) (simp (ne-eqb _ _ (c .before .before .if5 .left), le-leb _ _ (c .before .if6 .left), lt-leb _ _ (c .if7 .taken)))
-
-wide-requires-2 : tie.Need-wide-requires-2
-wide-requires-2 c κs = search needs
-
-sub-t22 : tie.Need-sub-t22
-sub-t22 c = search needs
-
-enum-known-self-3 : tie.Need-enum-known-self-3
-enum-known-self-3 c = search needs
-
-pushed-on-requires : tie.Need-pushed-on-requires
-pushed-on-requires c κs = search needs
-
-returns-9 : tie.Need-returns-9
-unfolding stepOf _and_ if_then_else_
-returns-9 c = rw (c .before .before .before .self3 .given .1, c .before .if8 .taken) (c .pushed-on .ensures)
-
-enum-known-self-4 : tie.Need-enum-known-self-4
-enum-known-self-4 c = search needs
-
-pushed-on-requires-2 : tie.Need-pushed-on-requires-2
-pushed-on-requires-2 c κs = search needs
-
-returns-10 : tie.Need-returns-10
-unfolding stepOf _and_ if_then_else_
-returns-10 c = rw (c .before .before .before .self4 .given .1, c .before .if9 .taken) (c .pushed-on2 .ensures)
-
-returns-11 : tie.Need-returns-11
-unfolding stepOf _and_ if_then_else_
-returns-11 c = rw (c .before .before .before .self4 .given .1) (simp (ne-eqb _ _ (c .before .if9 .left), lt-leb _ _ (c .if10 .taken)))
-
-returns-12 : tie.Need-returns-12
-unfolding stepOf _and_ if_then_else_
-returns-12 c = rw (c .before .before .before .before .self4 .given .1) (simp (ne-eqb _ _ (c .before .before .if9 .left), le-leb _ _ (c .before .if10 .left), lt-leb _ _ (c .if11 .taken)))
-
-mul-t25 : tie.Need-mul-t25
-mul-t25 c = search needs
-
-wide-requires-3 : tie.Need-wide-requires-3
-wide-requires-3 c κs = search needs
-
-sub-t27 : tie.Need-sub-t27
-sub-t27 c = search needs
-
-add-t28 : tie.Need-add-t28
-add-t28 c = search needs
-
-returns-13 : tie.Need-returns-13
-unfolding stepOf _and_ if_then_else_
-returns-13 c =
-    let v = c .before .before .before .before .before .before .self4 .given .0 .1 .1 .0 in
-    let b = c .before .before .before .before .before .before .before .before .args .b in
-    let h : v * 10 + (b - 48) < 2 ^ 64 = omega arith in
-    rw (c .before .before .before .before .before .before .self4 .given .1, c .wide3 .ensures)
-    (simp (ne-eqb _ _ (c .before .before .before .before .if9 .left), le-leb _ _ (c .before .before .before .if10 .left), le-leb _ _ (c .before .before .if11 .left), lt-ltb _ _ h))
-
-mul-t30 : tie.Need-mul-t30
-mul-t30 c = search needs
-
-wide-requires-4 : tie.Need-wide-requires-4
-wide-requires-4 c κs = search needs
-
-sub-t32 : tie.Need-sub-t32
-sub-t32 c = search needs
-
-add-t33 : tie.Need-add-t33
-add-t33 c = search needs
-
-returns-14 : tie.Need-returns-14
-unfolding stepOf _and_ if_then_else_
-returns-14 c =
-    let v = c .before .before .before .before .before .before .before .before .self4 .given .0 .1 .1 .0 in
-    let b = c .before .before .before .before .before .before .before .before .before .before .args .b in
-    let h : v * 10 + (b - 48) < 2 ^ 64 = omega arith in
-    rw (c .before .before .before .before .before .before .before .before .self4 .given .1, c .wide4 .ensures)
-    (simp (ne-eqb _ _ (c .before .before .before .before .before .before .if9 .left), le-leb _ _ (c .before .before .before .before .before .if10 .left), le-leb _ _ (c .before .before .before .before .if11 .left), lt-ltb _ _ h))
-
-enum-told-2 : tie.Need-enum-told-2
-enum-told-2 c = search needs
-
-returns-15 : tie.Need-returns-15
-unfolding stepOf _and_ if_then_else_
-returns-15 c =
-    let x = c .before .before .before .before .before .self .given .0 .0 in
-    let b = c .before .before .before .before .before .before .before .args .b in
-    let h : 2 ^ 64 ≤ x * 256 + b = omega arith in
-    rw (c .before .before .before .before .before .self .given .1)
-    (simp (ne-eqb _ _ (c .before .before .before .if1 .left), le-leb _ _ (c .before .before .if2 .left), le-leb _ _ (c .before .if3 .left), le-ltb _ _ h))
-
-returns-16 : tie.Need-returns-16
-unfolding stepOf _and_ if_then_else_
-returns-16 c = rw (c .before .before .before .before .before .self2 .given .1, c .wide2 .ensures) (simp (ne-eqb _ _ (c .before .before .before .if5 .left), le-leb _ _ (c .before .before .if6 .left), le-leb _ _ (c .before .if7 .left)))
-
-returns-17 : tie.Need-returns-17
-unfolding stepOf _and_ if_then_else_
-returns-17 c = rw (c .before .before .self3 .given .1) (simp (ne-eqb _ _ (c .if8 .left)))
-
-returns-18 : tie.Need-returns-18
-unfolding stepOf _and_ if_then_else_
-returns-18 c =
-    let v = c .before .before .before .before .before .before .before .self4 .given .0 .1 .1 .0 in
+digit-more : tie.Need-returns-9
+digit-more c =
     let b = c .before .before .before .before .before .before .before .before .before .args .b in
-    let h : 2 ^ 64 ≤ v * 10 + (b - 48) = omega arith in
-    rw (c .before .before .before .before .before .before .before .self4 .given .1)
-    (simp (ne-eqb _ _ (c .before .before .before .before .before .if9 .left), le-leb _ _ (c .before .before .before .before .if10 .left), le-leb _ _ (c .before .before .before .if11 .left), le-ltb _ _ h))
+    let v = c .before .before .before .before .before .before .before .self3 .given .0 .1 .1 .0 in
+    let d = confirmed (c .before .before .before .is-digit2 .ensures) (c .before .before .if7 .left) in
+    let high : b ≤ 57 = digit-most b d in
+    rw (c .before .before .before .before .before .before .before .self3 .given .1, c .wide3 .ensures) (sym (digit-step _ _ b v (omega (arith, c .before .before .before .before .if6 .left)) d (omega arith)))
 
-returns-19 : tie.Need-returns-19
-unfolding stepOf _and_ if_then_else_
-returns-19 c =
-    let v = c .before .before .before .before .before .before .self4 .given .0 .1 .1 .0 in
-    let b = c .before .before .before .before .before .before .before .before .args .b in
-    let h : 2 ^ 64 ≤ v * 10 + (b - 48) = omega arith in
-    rw (c .before .before .before .before .before .before .self4 .given .1)
-    (simp (ne-eqb _ _ (c .before .before .before .before .if9 .left), le-leb _ _ (c .before .before .before .if10 .left), le-leb _ _ (c .before .before .if11 .left), le-ltb _ _ h))
+digit-4 : tie.Need-sub-t32
+digit-4 c = rw (c .wide4 .ensures) (digit-least _ (confirmed (c .before .before .before .before .before .is-digit2 .ensures) (c .before .before .before .before .if7 .left)))
 
-returns-20 : tie.Need-returns-20
-unfolding stepOf _and_ if_then_else_
-returns-20 c = rw (c .enum-told2 .given .1)
+last-digit : tie.Need-returns-10
+last-digit c =
+    let b = c .before .before .before .before .before .before .before .before .before .before .before .args .b in
+    let v = c .before .before .before .before .before .before .before .before .before .self3 .given .0 .1 .1 .0 in
+    let d = confirmed (c .before .before .before .before .before .is-digit2 .ensures) (c .before .before .before .before .if7 .left) in
+    rw (c .before .before .before .before .before .before .before .before .before .self3 .given .1, c .wide4 .ensures) (sym (digit-step _ _ b v (omega (arith, c .before .before .before .before .before .before .if6 .left)) d (omega arith)))
+
+over-by-digit : tie.Need-returns-13
+over-by-digit c = rw (c .before .before .before .before .before .before .before .before .self3 .given .1) (sym (digit-over _ _ _ _ (c .before .before .before .before .before .before .if5 .left) (omega arith)))
+
+over : tie.Need-returns-14
+over c = rw (c .before .before .before .before .before .before .before .self3 .given .1) (sym (digit-over _ _ _ _ (c .before .before .before .before .before .if5 .left) (omega (arith, c .if9 .left))))
 
 pub step-spec : {M : Type 1} → statement M
 step-spec =
     tie.close
     (tie.spec
-    enum-known-self
-    word-of-requires
-    enum-known-w
-    enum-told
-    returns
-    returns-2
-    returns-3
-    returns-4
-    mul-t17
-    wide-requires
-    add-t19
-    returns-5
-    enum-known-self-2
-    returns-6
-    returns-7
-    returns-8
-    wide-requires-2
-    sub-t22
-    enum-known-self-3
-    pushed-on-requires
-    returns-9
-    enum-known-self-4
-    pushed-on-requires-2
-    returns-10
-    returns-11
-    returns-12
-    mul-t25
-    wide-requires-3
-    sub-t27
-    add-t28
-    returns-13
-    mul-t30
-    wide-requires-4
-    sub-t32
-    add-t33
-    returns-14
-    enum-told-2
-    returns-15
-    returns-16
-    returns-17
-    returns-18
-    returns-19
-    returns-20)
+    (λ c. search needs)
+    (λ c κs. search needs)
+    (λ c. search needs)
+    (λ c. search needs)
+    word-ends
+    no-word
+    (λ c κs. search needs)
+    no-letter
+    (λ c. search needs)
+    (λ c κs. search needs)
+    (λ c. search needs)
+    letter-more
+    (λ c. search needs)
+    (λ c κs. search needs)
+    no-field
+    (λ c κs. search needs)
+    first-digit
+    (λ c. search needs)
+    (λ c κs. search needs)
+    field-ends
+    behind-nought
+    (λ c κs. search needs)
+    no-digit
+    (λ c. search needs)
+    (λ c κs. search needs)
+    digit-3
+    add-3
+    digit-more
+    (λ c. search needs)
+    (λ c κs. search needs)
+    digit-4
+    (λ c. search needs)
+    last-digit
+    (λ c. search needs)
+    too-long
+    field-begins
+    over-by-digit
+    over
+    (unfold stepOf in λ c. rw (c .enum-told2 .given .1)))
