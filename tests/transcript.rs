@@ -12,6 +12,8 @@ use std::sync::mpsc;
 use std::thread;
 use std::time::Duration;
 
+mod pieces;
+
 const BLOCK: usize = 65536;
 const HEADER: &[u8] = b"line\tanswer\tspent\n";
 const COMPLAINT: &[u8] = b"guard: not all was read and written\n";

@@ -1,7 +1,8 @@
 //! Whole transcripts, held to the output of the second implementation.
 
-use compare::{check_transcript, every_transcript, random_transcript, readers, Random, Reached};
+use compare::{check_transcript, every_transcript, random_transcript, readers, Layer, Random, Reached};
 use reference::transcript::transcript;
+use std::collections::BTreeSet;
 
 const _: () = assert!(!reference::WRONG, "tests are built without a wrong turn");
 
@@ -88,4 +89,52 @@ fn forms_and_places() {
         let rows = answers.iter().enumerate().map(|(at, answer)| format!("{}\t{answer}\t0\n", at + 1));
         check_output(input, &format!("line\tanswer\tspent\n{}", rows.collect::<String>()));
     }
+}
+
+/// What stands in a word's place and is none, a bar between two: letters too many or too few, and other bytes.
+const NO_WORDS: &[u8] =
+    b"|o|ope|opens|xopen|Open|zzzzzzzz|activated|xactivate|xxdeassign|op3n|open |\0open|ope{|\x80|open\xff";
+
+/// Fields of every length, near 2^64, and no numbers.
+const SHAPES: &[u8] = b"|0|2|8|31|32|63|64|128|1000000000000000000|9999999999999999999|10000000000000000000|\
+    18446744073709551615|18446744073709551616|18446744073709551617|99999999999999999999|100000000000000000000|\
+    00|01|0000000000000000001|+1|-1| 1|1 |1a|1/|:|1\r|\0|1\0|\xb1";
+
+fn pieces(list: &[u8]) -> impl Iterator<Item = &[u8]> {
+    list.split(|byte| *byte == b'|')
+}
+
+/// Every word and what is none, with up to four fields: every shape in every place, the others all short or all long.
+/// The lines without fields come last, and of these the mode words.
+fn lines_of_shapes() -> Vec<Vec<u8>> {
+    let words: BTreeSet<&str> = Layer::ALL.iter().flat_map(|layer| layer.words()).map(|word| word.name).collect();
+    let known = words.into_iter().chain(Layer::ALL.map(Layer::mode)).map(str::as_bytes);
+    let words: Vec<&[u8]> = pieces(NO_WORDS).chain(known).collect();
+    let mut lines = Vec::new();
+    for (count, other) in (1..=4).flat_map(|count| [(count, "1"), (count, "9999999999999999999")]) {
+        for (word, at) in words.iter().flat_map(|word| (1..=count).map(move |at| (word, at))) {
+            lines.extend(pieces(SHAPES).map(|shape| {
+                let mut line = vec![other.as_bytes(); 1 + count];
+                (line[0], line[at]) = (word, shape);
+                line.join(&b'\t')
+            }));
+        }
+    }
+    lines.extend(words.into_iter().map(<[u8]>::to_vec));
+    lines
+}
+
+/// In each mode behind `run`, and before a mode is chosen. The ends make three lengths, and so pieces of three sizes.
+#[test]
+fn lines_of_every_shape() {
+    let (lines, readers, mut reached) = (lines_of_shapes().join(&b'\n'), readers(), Reached::default());
+    for start in ["", "roles\nrun\n", "lattice\nrun\n"] {
+        for end in ["", "\n", "\n\n"] {
+            let input = [start.as_bytes(), &lines, end.as_bytes()].concat();
+            if let Err(difference) = check_transcript(&input, &readers, &mut reached) {
+                panic!("{difference}");
+            }
+        }
+    }
+    println!("{} lines compared", reached.total());
 }
