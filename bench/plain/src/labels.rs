@@ -1,11 +1,8 @@
 //! The label requests on a table known to be the sound image of a machine state, and the label set-up.
 
-use crate::roles::{check, close, end, open, start};
+use crate::roles::{close, end, open, start, within};
 use crate::table::{has, Table, ACTIVE, ASSIGNED, GRANTED, OWNER, PERMITTED};
 use crate::{yes_or_no, NO, YES};
-
-/// The largest value of each argument, a row for each code from 1 on.
-const LARGEST: [[u64; 3]; 5] = [[31, 63, 1], [31, 63, 1], [31, 63, 31], [31, 0, 0], [63, 31, 0]];
 
 const EQUAL: u64 = 0;
 const ABOVE: u64 = 1;
@@ -66,16 +63,18 @@ pub fn is_image(t: &Table) -> bool {
 }
 
 /// A label request on a sound image: refusals 15 and 16, then yes or no with spent.
+#[inline]
 pub fn serve(t: &mut Table, code: u64, a: u64, b: u64, c: u64) -> Result<(u64, u64), u64> {
-    check(&LARGEST, code, a, b, c)?;
-    let (a, b, c) = (a as usize, b as usize, c as usize);
-    Ok(match code {
-        1 => (yes_or_no(open(t, a, b, c)), 1),
-        2 => (yes_or_no(close(t, a, b, c)), 1),
-        3 => (yes_or_no(start(t, a, b, 1 << c | 1 << (32 + c))), 1),
-        4 => (yes_or_no(end(t, a)), 1),
-        _ => reclear(t, a, b),
-    })
+    let within = |largest| within(largest, [a, b, c]);
+    let yes = match code {
+        1 => within([31, 63, 1]).map(|[s, o, x]| open(t, s, o, x)),
+        2 => within([31, 63, 1]).map(|[s, o, x]| close(t, s, o, x)),
+        3 => within([31, 63, 31]).map(|[s, u, y]| start(t, s, u, 1 << y | 1 << (32 + y))),
+        4 => within([31, 0, 0]).map(|[s, _, _]| end(t, s)),
+        5 => return within([63, 31, 0]).map(|[u, y, _]| reclear(t, u, y)),
+        _ => Err(15),
+    };
+    yes.map(|yes| (yes_or_no(yes), 1))
 }
 
 fn reclear(t: &mut Table, u: usize, c: usize) -> (u64, u64) {

@@ -6,50 +6,35 @@ use crate::table::{
 };
 use crate::{yes_or_no, YES};
 
-/// The largest value of each argument, a row for each code from 1 on.
-const LARGEST: [[u64; 3]; 10] = [
-    [31, 63, 7],
-    [31, 63, 7],
-    [31, 63, u64::MAX],
-    [31, 0, 0],
-    [31, 63, 0],
-    [31, 63, 0],
-    [63, 63, 0],
-    [63, 63, 0],
-    [63, 7, 63],
-    [63, 7, 63],
-];
-
-/// Refusals 15 and 16 by a table of largest values.
+/// The arguments as places, or refusal 16 by the largest value of each.
 #[inline]
-pub fn check(largest: &[[u64; 3]], code: u64, a: u64, b: u64, c: u64) -> Result<(), u64> {
-    let row = largest.get(code.wrapping_sub(1) as usize).ok_or(15u64)?;
-    if a <= row[0] && b <= row[1] && c <= row[2] {
-        Ok(())
+pub fn within(largest: [u64; 3], [a, b, c]: [u64; 3]) -> Result<[usize; 3], u64> {
+    if a <= largest[0] && b <= largest[1] && c <= largest[2] {
+        Ok([a as usize, b as usize, c as usize])
     } else {
         Err(16)
     }
 }
 
-/// A role request on a sound table: refusals 15, 16 and 17, then yes or no.
+/// A role request on a sound table: refusals 15, 16 and 17, then yes or no. (In the arm of each code its limits are
+/// constants.)
+#[inline]
 pub fn serve(t: &mut Table, code: u64, a: u64, b: u64, c: u64) -> Result<u64, u64> {
-    check(&LARGEST, code, a, b, c)?;
-    let (a, b, roles, c) = (a as usize, b as usize, c, c as usize);
-    if code >= 9 && !has(t[PERMITTED + b], c) {
-        return Err(17);
-    }
-    Ok(yes_or_no(match code {
-        1 => open(t, a, b, c),
-        2 => close(t, a, b, c),
-        3 => start(t, a, b, roles),
-        4 => end(t, a),
-        5 => activate(t, a, b),
-        6 => drop_role(t, a, b),
-        7 => add(t, ASSIGNED + a, b),
-        8 => deassign(t, a, b),
-        9 => add(t, GRANTED + 64 * b + c, a),
-        _ => revoke(t, a, b, c),
-    }))
+    let within = |largest| within(largest, [a, b, c]);
+    let yes = match code {
+        1 => within([31, 63, 7]).map(|[s, o, x]| open(t, s, o, x)),
+        2 => within([31, 63, 7]).map(|[s, o, x]| close(t, s, o, x)),
+        3 => within([31, 63, u64::MAX]).map(|[s, u, _]| start(t, s, u, c)),
+        4 => within([31, 0, 0]).map(|[s, _, _]| end(t, s)),
+        5 => within([31, 63, 0]).map(|[s, r, _]| activate(t, s, r)),
+        6 => within([31, 63, 0]).map(|[s, r, _]| drop_role(t, s, r)),
+        7 => within([63, 63, 0]).map(|[u, r, _]| add(t, ASSIGNED + u, r)),
+        8 => within([63, 63, 0]).map(|[u, r, _]| deassign(t, u, r)),
+        9 => within([63, 7, 63]).and_then(|[r, x, o]| grant(t, r, x, o)),
+        10 => within([63, 7, 63]).and_then(|[r, x, o]| revoke(t, r, x, o)),
+        _ => Err(15),
+    };
+    yes.map(yes_or_no)
 }
 
 #[inline]
@@ -112,9 +97,19 @@ fn deassign(t: &mut Table, u: usize, r: usize) -> bool {
     })
 }
 
-fn revoke(t: &mut Table, r: usize, x: usize, o: usize) -> bool {
+fn grant(t: &mut Table, r: usize, x: usize, o: usize) -> Result<bool, u64> {
+    if !has(t[PERMITTED + x], o) {
+        return Err(17);
+    }
+    Ok(add(t, GRANTED + 64 * x + o, r))
+}
+
+fn revoke(t: &mut Table, r: usize, x: usize, o: usize) -> Result<bool, u64> {
+    if !has(t[PERMITTED + x], o) {
+        return Err(17);
+    }
     let at = GRANTED + 64 * x + o;
-    remove(t, at, r, |t| (0..32).all(|s| !has(t[HOLDS + 8 * s + x], o) || t[at] & covered(t, t[ACTIVE + s]) != 0))
+    Ok(remove(t, at, r, |t| (0..32).all(|s| !has(t[HOLDS + 8 * s + x], o) || t[at] & covered(t, t[ACTIVE + s]) != 0)))
 }
 
 /// The closure of the direct juniors, the permissions and nothing else; refusal 20.

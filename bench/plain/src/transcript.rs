@@ -9,6 +9,11 @@ const BLOCK: usize = 1 << 16;
 const LONGEST: usize = 128;
 /// Room for one line of output: three numbers, two tabs and a newline.
 const ROOM: usize = 64;
+/// Room for a usual line: 8 letters, three numbers of 19 digits, and a byte behind each. (With so much left of a block
+/// its end is not looked for.)
+const USUAL: usize = 69;
+/// The first line of the output.
+const HEADER: &[u8] = b"line\tanswer\tspent\n";
 
 /// Reads a transcript and writes its output.
 pub fn run(mut input: impl Read, output: impl Write) -> io::Result<()> {
@@ -34,7 +39,7 @@ pub fn run(mut input: impl Read, output: impl Write) -> io::Result<()> {
         block.copy_within(at..at + kept, 0);
     }
     if kept > 0 || overlong {
-        transcript.line(None)?;
+        transcript.row(10, 0)?;
     }
     transcript.flush()
 }
@@ -59,6 +64,64 @@ const fn packed(text: &[u8]) -> u64 {
 /// The length of the first line of a block, and its record where it is one; none where no newline ends it.
 #[inline]
 fn read(bytes: &[u8]) -> Option<(usize, Option<Record>)> {
+    match bytes.first_chunk().map(usual) {
+        Some(Ok((length, record))) => Some((length, Some(record))),
+        Some(Err(at)) if !bytes[at].is_ascii_digit() => Some((skip(bytes, at)?, None)),
+        _ => read_any(bytes),
+    }
+}
+
+/// The length of a usual line and its record. Where it is no usual line, the place of the byte that breaks it: it is no
+/// record then, unless that byte is a digit.
+#[inline]
+fn usual(bytes: &[u8; USUAL]) -> Result<(usize, Record), usize> {
+    let (mut at, word) = letters(bytes);
+    let mut record = Record { word, fields: [0; 3], count: 0 };
+    for (count, place) in record.fields.iter_mut().enumerate() {
+        if bytes[at] != b'\t' {
+            break;
+        }
+        let (length, value) = bytes[at + 1..].first_chunk().and_then(number).ok_or(at + 1)?;
+        *place = value;
+        record.count = count + 1;
+        at += 1 + length;
+    }
+    if bytes[at] == b'\n' {
+        Ok((at, record))
+    } else {
+        Err(at)
+    }
+}
+
+/// How many letters a line begins with, 8 at most, and these packed.
+#[inline]
+fn letters(bytes: &[u8; USUAL]) -> (usize, u64) {
+    let mut word = 0;
+    for (at, letter) in bytes.iter().enumerate().take(8) {
+        if !letter.is_ascii_lowercase() {
+            return (at, word);
+        }
+        word = word << 8 | u64::from(*letter);
+    }
+    (8, word)
+}
+
+/// How many digits a number has, up to 19, and its value; none where it has no digit. Behind a first 0 stands no other.
+#[inline]
+fn number(bytes: &[u8; 19]) -> Option<(usize, u64)> {
+    let mut value = 0;
+    for (at, byte) in bytes.iter().enumerate() {
+        let digit = byte.wrapping_sub(b'0');
+        if digit > 9 || at > 0 && value == 0 {
+            return Some((at, value)).filter(|_| at > 0);
+        }
+        value = value * 10 + u64::from(digit);
+    }
+    Some((19, value))
+}
+
+/// The same as `read`, for a line of any form: the block's end is looked for at each byte.
+fn read_any(bytes: &[u8]) -> Option<(usize, Option<Record>)> {
     let mut record = Record { word: 0, fields: [0; 3], count: 0 };
     let mut at = 0;
     loop {
@@ -66,7 +129,7 @@ fn read(bytes: &[u8]) -> Option<(usize, Option<Record>)> {
             b'\n' => return Some((at, Some(record))),
             b'\t' => break,
             letter @ b'a'..=b'z' if at < 8 => record.word = record.word << 8 | u64::from(letter),
-            _ => return skip(bytes, at),
+            _ => return Some((skip(bytes, at)?, None)),
         }
         at += 1;
     }
@@ -74,7 +137,7 @@ fn read(bytes: &[u8]) -> Option<(usize, Option<Record>)> {
         let (end, value) = field(bytes, at + 1)?;
         at = end;
         let (Some(value), Some(place)) = (value, record.fields.get_mut(record.count)) else {
-            return skip(bytes, at);
+            return Some((skip(bytes, at)?, None));
         };
         *place = value;
         record.count += 1;
@@ -105,11 +168,10 @@ fn field(bytes: &[u8], from: usize) -> Option<(usize, Option<u64>)> {
     }
 }
 
-/// The rest of a line that is no record.
+/// The length of a line that is no record, from a place in it on; none where no newline ends it.
 #[cold]
-fn skip(bytes: &[u8], from: usize) -> Option<(usize, Option<Record>)> {
-    let length = bytes[from..].iter().position(|byte| *byte == b'\n')?;
-    Some((from + length, None))
+fn skip(bytes: &[u8], from: usize) -> Option<usize> {
+    Some(from + bytes[from..].iter().position(|byte| *byte == b'\n')?)
 }
 
 #[derive(Clone, Copy, PartialEq, Eq)]
@@ -133,17 +195,21 @@ enum Use {
 /// The words of a mode, their use and their number of fields.
 #[inline]
 fn look_up(mode: Mode, word: u64) -> Option<(Use, usize)> {
-    const ROLES: u64 = packed(b"roles");
-    const LATTICE: u64 = packed(b"lattice");
-    match word {
-        ROLES => return Some((Use::Mode(Mode::Roles), 0)),
-        LATTICE => return Some((Use::Mode(Mode::Lattice), 0)),
-        _ => {}
-    }
-    match mode {
+    let known = match mode {
         Mode::Unset => None,
         Mode::Roles => roles_word(word),
         Mode::Lattice => lattice_word(word),
+    };
+    known.or_else(|| mode_word(word))
+}
+
+fn mode_word(word: u64) -> Option<(Use, usize)> {
+    const ROLES: u64 = packed(b"roles");
+    const LATTICE: u64 = packed(b"lattice");
+    match word {
+        ROLES => Some((Use::Mode(Mode::Roles), 0)),
+        LATTICE => Some((Use::Mode(Mode::Lattice), 0)),
+        _ => None,
     }
 }
 
@@ -202,10 +268,33 @@ fn lattice_word(word: u64) -> Option<(Use, usize)> {
 /// The answer and spent, or the number of a refusal.
 type Outcome = Result<(u64, u64), u64>;
 
+/// The number of a row in decimal: its digits, and zeros behind them.
+struct Number {
+    digits: [u8; 20],
+    length: usize,
+}
+
+impl Number {
+    /// Counts one up.
+    #[inline]
+    fn count_up(&mut self) {
+        for digit in self.digits[..self.length].iter_mut().rev() {
+            if *digit < b'9' {
+                *digit += 1;
+                return;
+            }
+            *digit = b'0';
+        }
+        self.digits[0] = b'1';
+        self.length += 1;
+    }
+}
+
 struct Transcript<W> {
     output: W,
-    buffer: Vec<u8>,
-    lines: u64,
+    buffer: Box<[u8; BLOCK]>,
+    used: usize,
+    number: Number,
     mode: Mode,
     running: bool,
     table: Table,
@@ -217,12 +306,13 @@ struct Transcript<W> {
 
 impl<W: Write> Transcript<W> {
     fn new(output: W) -> Self {
-        let mut buffer = Vec::with_capacity(BLOCK);
-        buffer.extend(b"line\tanswer\tspent\n");
+        let mut buffer = Box::new([0; BLOCK]);
+        buffer[..HEADER.len()].copy_from_slice(HEADER);
         Transcript {
             output,
             buffer,
-            lines: 0,
+            used: HEADER.len(),
+            number: Number { digits: *b"10000000000000000000", length: 1 },
             mode: Mode::Unset,
             running: false,
             table: [0; WORDS],
@@ -238,35 +328,33 @@ impl<W: Write> Transcript<W> {
     fn line(&mut self, record: Option<Record>) -> io::Result<()> {
         let outcome = record.ok_or(10).and_then(|record| self.step(&record));
         let (answer, spent) = outcome.unwrap_or_else(|refusal| (refusal, 0));
-        self.lines += 1;
-        self.print(self.lines, b'\t');
-        self.print(answer, b'\t');
-        self.print(spent, b'\n');
-        if self.buffer.len() > BLOCK - ROOM {
+        self.row(answer, spent)
+    }
+
+    /// Writes the next row. An answer has two digits at most, and spent has one.
+    #[inline(always)]
+    fn row(&mut self, answer: u64, spent: u64) -> io::Result<()> {
+        if self.used > BLOCK - ROOM {
             self.flush()?;
         }
+        let row = &mut self.buffer[self.used..self.used + ROOM];
+        row[..20].copy_from_slice(&self.number.digits);
+        let (mut at, mut answer) = (self.number.length, answer as u8);
+        row[at] = b'\t';
+        if answer > 9 {
+            at += 1;
+            row[at] = b'0' + answer / 10;
+            answer %= 10;
+        }
+        row[at + 1..at + 5].copy_from_slice(&[b'0' + answer, b'\t', b'0' + spent as u8, b'\n']);
+        self.used += at + 5;
+        self.number.count_up();
         Ok(())
     }
 
-    #[inline]
-    fn print(&mut self, number: u64, after: u8) {
-        let mut text = [0; 21];
-        text[20] = after;
-        let (mut at, mut left) = (20, number);
-        loop {
-            at -= 1;
-            text[at] = b'0' + (left % 10) as u8;
-            left /= 10;
-            if left == 0 {
-                break;
-            }
-        }
-        self.buffer.extend_from_slice(&text[at..]);
-    }
-
     fn flush(&mut self) -> io::Result<()> {
-        self.output.write_all(&self.buffer)?;
-        self.buffer.clear();
+        self.output.write_all(&self.buffer[..self.used])?;
+        self.used = 0;
         self.output.flush()
     }
 
