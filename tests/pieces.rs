@@ -5,7 +5,7 @@ use std::cell::RefCell;
 use std::collections::VecDeque;
 
 extern "C" {
-    /// The program's `main`: `tests/run` renames it, and its `read` and `write`, in a copy of target/obj/guard.o.
+    /// The program's `main`: `tests/compile` renames it, and its `read` and `write`, in a copy of target/obj/guard.o.
     fn guard_main() -> i32;
 }
 

@@ -10,7 +10,7 @@ use borrow.Author.Tests.{not-true}
 use Rattle.bits.proofs.Truth.{and-intro, and-left, and-right, if-true, if-false}
 use Rattle.lines.specs.Bytes.{newline, every}
 use Rattle.lines.specs.Reader.{finished, stepOf, steps, fed}
-use Rattle.lines.specs.Claims.{LineRead, within, PieceFed, handed, flat, PiecesFed, FreshRead}
+use Rattle.lines.specs.Claims.{LineRead, inOneLine, PieceFed, handed, flat, PiecesFed, FreshRead}
 use Rattle.lines.specs.declared.Reader.{Reader}
 use Rattle.lines.specs.declared.Reader.the-variants.{Letters}
 use Rattle.lines.specs.declared.Fed.{Fed}
@@ -24,7 +24,7 @@ line-read l = finished-joined l ∙ line-joined l
 -- ---- pieces
 
 -- bytes before others: those are left to a reader that has read these
-fed-append : (s : Reader) (p l : List ℕ) (at : ℕ) → within p ≡ true → fed s (p ++ l) at ≡ fed (steps s p) l (at + length p)
+fed-append : (s : Reader) (p l : List ℕ) (at : ℕ) → inOneLine p ≡ true → fed s (p ++ l) at ≡ fed (steps s p) l (at + length p)
 unfolding fed steps every
 fed-append s [] l at h = ap (λ (k : ℕ). fed s l k) (omega arith)
 fed-append s (b ∷ p) l at h =
@@ -46,7 +46,7 @@ unfolding every
 every-right f [] q h = h
 every-right f (b ∷ p) q h = every-right f p q (and-right (f b) _ h)
 
-handed-steps : (s : Reader) (ps : List (List ℕ)) → within (flat ps) ≡ true → handed s ps ≡ steps s (flat ps)
+handed-steps : (s : Reader) (ps : List (List ℕ)) → inOneLine (flat ps) ≡ true → handed s ps ≡ steps s (flat ps)
 unfolding handed flat steps
 handed-steps s [] h = refl
 handed-steps s (p ∷ ps) h =

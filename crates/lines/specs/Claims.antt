@@ -12,12 +12,12 @@ abbrev pub LineRead : Type 0
 LineRead = (l : List ℕ) → finished (steps (Letters 0) l) ≡ line l
 
 -- bytes without a newline
-abbrev pub within : List ℕ → Bool
-within l = every (λ b. not (eqb b newline)) l
+abbrev pub inOneLine : List ℕ → Bool
+inOneLine l = every (λ b. not (eqb b newline)) l
 
 -- What comes of a piece of a line, wherever the reader stands? Every byte of it is used, once and in order.
 abbrev pub PieceFed : Type 0
-PieceFed = (s : Reader) (p : List ℕ) (at : ℕ) → within p ≡ true → fed s p at ≡ record { whole = false; reader = steps s p; next = at + length p }
+PieceFed = (s : Reader) (p : List ℕ) (at : ℕ) → inOneLine p ≡ true → fed s p at ≡ record { whole = false; reader = steps s p; next = at + length p }
 
 -- pieces handed over in order, each as a block of its own: the reader goes on from where the piece before left it
 unfoldable pub handed : Reader → List (List ℕ) → Reader
@@ -31,7 +31,7 @@ flat (p ∷ ps) = p ++ flat ps
 
 -- the last piece p of a line, with the newline and other bytes behind it, where the pieces ps came before: the line is whole
 -- behind the newline, and is what Line says of the pieces joined
-pub record Joined (ps : List (List ℕ)) (p rest : List ℕ) (at : ℕ) : Type 0 where
+pub record LastPiece (ps : List (List ℕ)) (p rest : List ℕ) (at : ℕ) : Type 0 where
   pub whole : fed (handed (Letters 0) ps) (p ++ newline ∷ rest) at .whole ≡ true
   pub next : fed (handed (Letters 0) ps) (p ++ newline ∷ rest) at .next ≡ at + length p + 1
   pub line-is : finished (fed (handed (Letters 0) ps) (p ++ newline ∷ rest) at .reader) ≡ line (flat ps ++ p)
@@ -39,7 +39,7 @@ pub record Joined (ps : List (List ℕ)) (p rest : List ℕ) (at : ℕ) : Type 0
 -- Does it matter how a line is cut? No: its pieces, wherever it is cut, in order, give the fields or the refusal of the line in
 -- one piece, which is the case without pieces before the last.
 abbrev pub PiecesFed : Type 0
-PiecesFed = (ps : List (List ℕ)) (p rest : List ℕ) (at : ℕ) → within (flat ps ++ p) ≡ true → Joined ps p rest at
+PiecesFed = (ps : List (List ℕ)) (p rest : List ℕ) (at : ℕ) → inOneLine (flat ps ++ p) ≡ true → LastPiece ps p rest at
 
 -- Is the reader at a line's start only where no byte of it has been read? Yes.
 abbrev pub FreshRead : Type 0

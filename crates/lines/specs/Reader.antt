@@ -83,6 +83,15 @@ unfoldable pub fed : Reader → List ℕ → ℕ → Fed
 fed s [] at = record { whole = false; reader = s; next = at }
 fed s (b ∷ l) at = if eqb b newline then record { whole = true; reader = s; next = at + 1 } else fed (stepOf s b) l (at + 1)
 
+-- no byte of the line has been read
+unfoldable pub fresh : Reader → Bool
+fresh (Letters x) = eqb x 0
+fresh (Tab w fs) = false
+fresh (Digits w fs v) = false
+fresh Broken = false
+
+-- ---- for the functions that read a usual line
+
 -- the reader that stands at a place of a block as s goes on from another place as t: what comes of the block is the same
 abbrev pub GoesOn : List ℕ → Reader → ℕ → Reader → ℕ → Type 0
 GoesOn block s at t next = fed s (drop at block) at ≡ fed t (drop next block) next
@@ -90,10 +99,3 @@ GoesOn block s at t next = fed s (drop at block) at ≡ fed t (drop next block) 
 -- the same in a field, whatever the word and the fields before it: digits that are worth v, and those that are worth v′
 abbrev pub DigitsGoOn : List ℕ → ℕ → ℕ → ℕ → ℕ → Type 0
 DigitsGoOn block v at v′ next = (w : Word) (fs : Fields) → GoesOn block (Digits w fs v) at (Digits w fs v′) next
-
--- no byte of the line has been read
-unfoldable pub fresh : Reader → Bool
-fresh (Letters x) = eqb x 0
-fresh (Tab w fs) = false
-fresh (Digits w fs v) = false
-fresh Broken = false

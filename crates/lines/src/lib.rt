@@ -203,7 +203,19 @@ impl Reader {
         }
     }
 
-    // What the line is, at its newline.
+    // The line that ends where a tab would have stood.
+    fn ended(self) -> Line
+        ensures { λ r. ⌜ r ≡ ended self ⌝ }
+    {
+        match self {
+            Reader::Tab(w, fs) => Line::Read(w, fs),
+            Reader::Letters(_) => Line::Refused,
+            Reader::Digits(_, _, _) => Line::Refused,
+            Reader::Broken => Line::Refused,
+        }
+    }
+
+    // What the line is, at its newline. (step is not called here, so that it stands in one loop only and is compiled into it.)
     pub fn finish(self) -> Line
         ensures { λ r. ⌜ r ≡ finished self ⌝ }
     {
@@ -213,22 +225,9 @@ impl Reader {
                 Spelled::Nothing => Line::Refused,
             },
             Reader::Tab(_, _) => Line::Refused,
-            Reader::Digits(w, fs, n) => closed(w, fs, n),
+            Reader::Digits(w, fs, n) => pushed_on(w, fs, n).ended(),
             Reader::Broken => Line::Refused,
         }
-    }
-}
-
-// The line that ends behind one more field. (finish does not call step, so that step stands in one loop only and is compiled
-// into it.)
-fn closed(word: Word, fields: Fields, n: u64) -> Line
-    ensures { λ r. ⌜ r ≡ ended (pushed word fields n) ⌝ }
-{
-    match fields {
-        Fields::Without => Line::Read(word, Fields::One(n)),
-        Fields::One(a) => Line::Read(word, Fields::Two(a, n)),
-        Fields::Two(a, b) => Line::Read(word, Fields::Three(a, b, n)),
-        Fields::Three(_, _, _) => Line::Refused,
     }
 }
 

@@ -18,30 +18,12 @@ Inv-loop block at s₀ i₀ s i = fed s (drop i block) i ≡ fed s₀ (drop at b
 abbrev μ-loop : tie.MeasureT-loop
 μ-loop block at s₀ i₀ s i = length block - i
 
-loop-holds : tie.Need-loop-holds Inv-loop μ-loop
-loop-holds c = search needs
-
-shared-slice-read-b : tie.Need-shared-slice-read-b Inv-loop μ-loop
-shared-slice-read-b c = search needs
-
-add-t11 : tie.Need-add-t11 Inv-loop μ-loop
-add-t11 c = search needs
-
 returns : tie.Need-returns Inv-loop μ-loop
 unfolding fed if_then_else_
 returns c =
     let l = now (c .before .before .before .before .before .args .block) in
     let i = c .before .before .before .loop .i in
     sym (rw (drop-cons l i 0 (c .before .before .loop-test .taken)) (simp (eq-eqb _ _ (c .if1 .taken)))) ∙ c .before .before .before .loop .inv
-
-step-requires : tie.Need-step-requires Inv-loop μ-loop
-step-requires c κs = search needs
-
-add-i : tie.Need-add-i Inv-loop μ-loop
-add-i c = search needs
-
-loop-less : tie.Need-loop-less Inv-loop μ-loop
-loop-less c = search needs
 
 loop-again : tie.Need-loop-again Inv-loop μ-loop
 unfolding fed if_then_else_
@@ -63,12 +45,12 @@ read-on-spec =
     (tie.spec
     Inv-loop
     μ-loop
-    loop-holds
-    shared-slice-read-b
-    add-t11
+    (λ c. search needs)
+    (λ c. search needs)
+    (λ c. search needs)
     returns
-    step-requires
-    add-i
-    loop-less
+    (λ c κs. search needs)
+    (λ c. search needs)
+    (λ c. search needs)
     loop-again
     returns-2)
