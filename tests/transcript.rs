@@ -517,10 +517,12 @@ fn starts_and_ends(pairs: u64) -> (String, Vec<u8>) {
     (input, output_of((0..2 + 2 * pairs).map(|i| (1, u64::from(i > 1)))))
 }
 
+/// The rows of the last block, whose numbers have six digits, take more than a block of output.
 #[test]
 fn many_blocks() {
-    let (input, wanted) = starts_and_ends(30_000);
+    let (input, wanted) = starts_and_ends(60_000);
     assert!(input.len() > 8 * BLOCK);
+    assert!(lines_in(&input.as_bytes()[input.len() - BLOCK..]) * "100000\t1\t1\n".len() > BLOCK);
     same(&written_for_file(input.as_bytes()), &wanted, "a file");
     same(&written(input.as_bytes()), &wanted, "a pipe");
     for size in [1000, 4096, 65535, 65536] {
