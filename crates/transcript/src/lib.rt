@@ -56,6 +56,7 @@ pub fn serve(
     let mut reader = p.reader;
     let mut i = at;
     let mut o: usize = 0;
+    // The first width of these bytes are the digits of number, and are counted up with it: no row has to divide.
     let mut digits = [0u8; 21];
     let mut width = output::put_number(&mut digits, number);
     while i < block.len() {
