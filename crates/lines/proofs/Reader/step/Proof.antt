@@ -1,6 +1,6 @@
 -- `step` meets its contract. Assumes nothing.
 use borrow.Author.Needs.{needs}
-use Prim.Native.Nat.{_+_, _*_, _-_, _^_, _<_, _≤_}
+use Prim.Native.Nat.{_≤_}
 use mathlib.Core.Path.{sym}
 use native.Mathlib.Omega.{arith}
 use Rattle.bits.specs.Words.{if_then_else_}
