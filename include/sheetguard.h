@@ -8,13 +8,13 @@
  * docs/TABLE.md the layout of the words, what sound means, which fault gets which refusal, and byte order. Every function
  * returns, whatever the words and numbers are, and answers with a number:
  *
- *     SHEETGUARD_YES, SHEETGUARD_NO, or a refusal, 12 to 20, the first that fits in the order of the numbers (of two
+ *     SHEETGUARD_YES, SHEETGUARD_NO, or a refusal, 12 to 21, the first that fits in the order of the numbers (of two
  *     tables, the first table's before the second's). In place of yes and no sheetguard_compare_labels answers
  *     SHEETGUARD_EQUAL, SHEETGUARD_ABOVE, SHEETGUARD_BELOW or SHEETGUARD_APART.
  *
  * A no and a refusal leave all that is lent unchanged, but for *spent, which every label request writes: 0 at a refusal.
  * Of the seven functions that take a table four change it, and at a yes alone: the two set-ups and the two requests. A
- * request may write a word and put it back before it answers no, so that its table has to be writable memory. The other
+ * request may write words and put them back before it answers no, so that its table has to be writable memory. The other
  * three only read it.
  *
  * What a caller owes:
@@ -38,13 +38,13 @@ extern "C" {
 #endif
 
 /* The number of words of a table. */
-#define SHEETGUARD_WORDS 968
+#define SHEETGUARD_WORDS 1032
 
 /* The answers, but for the four of sheetguard_compare_labels. */
 enum {
     SHEETGUARD_NO = 0,
     SHEETGUARD_YES = 1,
-    SHEETGUARD_WRONG_LENGTH = 12,    /* the table has not 968 words */
+    SHEETGUARD_WRONG_LENGTH = 12,    /* the table has not 1,032 words */
     SHEETGUARD_UNSOUND = 13,         /* the table is not sound */
     SHEETGUARD_NO_IMAGE = 14,        /* a label request on a sound table that no label set-up leads to */
     SHEETGUARD_BAD_CODE = 15,        /* the code is not one of the requests */
@@ -52,7 +52,8 @@ enum {
     SHEETGUARD_NO_PERMISSION = 17,   /* a grant or revoke names a pair that is no permission */
     SHEETGUARD_BAD_LIST_LENGTH = 18, /* a set-up list has not its length */
     SHEETGUARD_BAD_VALUE = 19,       /* a label in a set-up list is over 31 */
-    SHEETGUARD_CYCLE = 20            /* direct juniors lead from a role through another back to it */
+    SHEETGUARD_CYCLE = 20,           /* direct juniors lead from a role through another back to it */
+    SHEETGUARD_BAD_PAIR = 21         /* a set's bound is below 2 or above the number of its roles, and not both are 0 */
 };
 
 /* How the first label stands to the second; what dominates means is said at the codes of label requests. */
@@ -63,19 +64,32 @@ enum {
     SHEETGUARD_APART = 3  /* neither dominates the other */
 };
 
-/* Codes of role requests, with their arguments a, b, c; an argument that is not listed is 0. */
+/*
+ * Codes of role requests, with their arguments a, b, c; an argument that is not listed is 0.
+ *
+ * A separation set is a set of roles and a bound: a number of these roles that nobody may have together. There are 16 static
+ * sets, which look at the authorised roles of every user, with a session or without, and 16 dynamic ones, which look at the
+ * active roles of every session, without their juniors. Who edits may not release: a static set of the two roles with
+ * bound 2.
+ */
 enum {
-    SHEETGUARD_OPEN = 1,     /* session, object, mode: yes when the pair is effective for the session */
-    SHEETGUARD_CLOSE = 2,    /* session, object, mode: always yes */
-    SHEETGUARD_START = 3,    /* session, user, roles (a set, any word): yes when the session is idle and every role of the
-                                set is authorised for the user; then exactly these are active */
-    SHEETGUARD_END = 4,      /* session: yes when it is not idle */
-    SHEETGUARD_ACTIVATE = 5, /* session, role: yes when the role is authorised for the session's user */
-    SHEETGUARD_DROP = 6,     /* session, role: yes when the table without it is sound */
-    SHEETGUARD_ASSIGN = 7,   /* user, role: always yes */
-    SHEETGUARD_DEASSIGN = 8, /* user, role: yes when the table without it is sound */
-    SHEETGUARD_GRANT = 9,    /* role, mode, object: always yes for a permission */
-    SHEETGUARD_REVOKE = 10   /* role, mode, object: yes when the table without it is sound */
+    SHEETGUARD_OPEN = 1,         /* session, object, mode: yes when the pair is effective for the session */
+    SHEETGUARD_CLOSE = 2,        /* session, object, mode: always yes */
+    SHEETGUARD_START = 3,        /* session, user, roles (a set, any word): yes when the session is idle, every role of the
+                                    set is authorised for the user and no dynamic set breaks; then exactly these are
+                                    active */
+    SHEETGUARD_END = 4,          /* session: yes when it is not idle */
+    SHEETGUARD_ACTIVATE = 5,     /* session, role: yes when the role is authorised for the session's user and no dynamic
+                                    set breaks */
+    SHEETGUARD_DROP = 6,         /* session, role: yes when the table without it is sound */
+    SHEETGUARD_ASSIGN = 7,       /* user, role: yes when no static set breaks */
+    SHEETGUARD_DEASSIGN = 8,     /* user, role: yes when the table without it is sound */
+    SHEETGUARD_GRANT = 9,        /* role, mode, object: always yes for a permission */
+    SHEETGUARD_REVOKE = 10,      /* role, mode, object: yes when the table without it is sound */
+    SHEETGUARD_STATIC_SET = 11,  /* set 0 to 15, roles (a set, any word), bound (any word): yes when every user has fewer of
+                                    the roles than the bound; they replace what the set was. Roles 0 with bound 0 empty
+                                    it, which is always yes */
+    SHEETGUARD_DYNAMIC_SET = 12  /* the same for a dynamic set and the active roles of every session */
 };
 
 /*
@@ -111,15 +125,15 @@ uint64_t sheetguard_role_setup(uint64_t *table, size_t words,
 
 /*
  * Table: changed at YES.
- * A role request. Answers YES, NO, or refusal 12, 13, 15, 16 or 17.
+ * A role request. Answers YES, NO, or refusal 12, 13, 15, 16, 17 or 21.
  */
 uint64_t sheetguard_role_request(uint64_t *table, size_t words,
                                  uint64_t code, uint64_t a, uint64_t b, uint64_t c);
 
 /*
  * Tables: only read.
- * Whether two tables have the same openings and the same effective permissions of each session. Answers YES or NO, or
- * refusal 12 or 13 for the first table, then for the second. The two may be the same table.
+ * Whether two tables have the same openings and the same effective permissions of each session; separation sets are not
+ * looked at. Answers YES or NO, or refusal 12 or 13 for the first table, then for the second. The two may be the same table.
  */
 uint64_t sheetguard_alike(const uint64_t *first, size_t n_first,
                           const uint64_t *second, size_t n_second);

@@ -50,9 +50,13 @@ fn find(table: &[u64], code: u64, answer: u64, changes: bool, ask: fn([u64; 4]) 
 
 /// A role request on the plant's table.
 fn role(name: &'static str, code: u64, answer: u64) -> Call {
-    let table = tables::plant();
-    let request = find(&table, code, answer, answer == 1, role_ask);
-    Call::new(name, &table, role_ask(request))
+    role_on(&tables::plant(), name, code, answer)
+}
+
+/// A role request on a table.
+fn role_on(table: &[u64], name: &'static str, code: u64, answer: u64) -> Call {
+    let request = find(table, code, answer, answer == 1, role_ask);
+    Call::new(name, table, role_ask(request))
 }
 
 /// A label request on the label image; the answer with spent.
@@ -101,6 +105,7 @@ pub fn rows() -> Vec<Call> {
         answered("role start", &tables::plant(), start, 1),
         role("role activate", 5, 1),
         role("role drop", 6, 1),
+        role("role assign", 7, 1),
         role("role deassign", 8, 1),
         role("role revoke", 10, 1),
         label("label open", 1, 1, 1),
@@ -114,5 +119,30 @@ pub fn rows() -> Vec<Call> {
         // 32 pairs equal, 238 above, as many below and 516 apart: 238 * 1 + 238 * 2 + 516 * 3
         answered("label comparison, 1,024 pairs", &tables::empty(), comparison, 2262),
         Call::new("likeness", &tables::plant(), likeness),
+    ]
+    .into_iter()
+    .chain(rows_with_sets())
+    .collect()
+}
+
+/// The rows on a table with 32 separation sets.
+fn rows_with_sets() -> Vec<Call> {
+    let table = tables::separated();
+    let row = |name, code, answer| role_on(&table, name, code, answer);
+    // session 16 is idle; user 18 starts with the two roles that are assigned
+    let start = role_ask([3, 16, 18, table[72 + 18]]);
+    // set 15 becomes what set 0 is
+    let static_set = role_ask([11, 15, table[968], table[969]]);
+    let dynamic_set = role_ask([12, 15, table[1000], table[1001]]);
+    vec![
+        sound("sound: plant, 32 sets", &table),
+        row("role open, 32 sets", 1, 1),
+        answered("role start, 32 sets", &table, start, 1),
+        row("role activate, yes, 32 sets", 5, 1),
+        row("role drop, 32 sets", 6, 1),
+        row("role assign, yes, 32 sets", 7, 1),
+        row("role assign, no, 32 sets", 7, 0),
+        answered("role static set, 32 sets", &table, static_set, 1),
+        answered("role dynamic set, 32 sets", &table, dynamic_set, 1),
     ]
 }

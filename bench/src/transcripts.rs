@@ -1,7 +1,7 @@
 //! Transcripts of a million lines through the programs.
 
 use crate::measure::Times;
-use compare::{many_requests, Layer, Random};
+use compare::{worded_requests, Layer, Random};
 use std::fs::{self, File};
 use std::io::{self, Write};
 use std::path::{Path, PathBuf};
@@ -18,7 +18,7 @@ pub fn report(rounds: usize) -> io::Result<()> {
     let beside = |name: &str| here.with_file_name(name);
     let guard = std::env::var_os("SHEETGUARD_PROGRAM").map(PathBuf::from);
     for (mode, layer) in [("roles", Layer::Roles), ("lattice", Layer::Labels)] {
-        let text = many_requests(&mut Random::new(11), layer, LINES).to_string();
+        let text = worded_requests(&mut Random::new(11), layer, LINES).to_string();
         let lines: Vec<&str> = text.lines().filter(|line| !line.starts_with('!')).take(LINES).collect();
         let (whole, part) = (write(mode, &lines)?, write(&format!("{mode}-part"), &lines[..PART])?);
         let counts = Command::new("wc");

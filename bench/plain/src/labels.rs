@@ -1,7 +1,7 @@
 //! The label requests on a table known to be the sound image of a machine state, and the label set-up.
 
 use crate::roles::{close, end, open, start, within};
-use crate::table::{has, Table, ACTIVE, ASSIGNED, GRANTED, OWNER, PERMITTED};
+use crate::table::{are_empty, has, Table, ACTIVE, ASSIGNED, GRANTED, OWNER, PERMITTED, STATIC};
 use crate::{yes_or_no, NO, YES};
 
 const EQUAL: u64 = 0;
@@ -60,6 +60,7 @@ pub fn is_image(t: &Table) -> bool {
         && t[ASSIGNED..GRANTED].iter().all(is_clearance)
         && (0..64).all(is_granted)
         && (0..32).all(is_seat)
+        && are_empty(&t[STATIC..])
 }
 
 /// A label request on a sound image: refusals 15 and 16, then yes or no with spent.

@@ -1,7 +1,7 @@
 //! The sheet guard in plain optimised Rust, without proofs: what the proved guard's speed is measured against.
 //!
 //! Sets are words, and only the members of a word are walked. The functions of this page take lent words and answer
-//! with the scope's numbers: 1 yes, 0 no, 12 to 20 a refusal. The comparison of two labels alone takes no words, and
+//! with the scope's numbers: 1 yes, 0 no, 12 to 21 a refusal. The comparison of two labels alone takes no words, and
 //! answers with a number of its own or a refusal.
 
 mod labels;
@@ -63,7 +63,7 @@ pub fn role_request(words: &mut [u64], code: u64, a: u64, b: u64, c: u64) -> u64
 /// Whether two tables are alike.
 pub fn alike(first: &[u64], second: &[u64]) -> u64 {
     let same = |one: &Table, other: &Table| {
-        one[table::HOLDS..] == other[table::HOLDS..]
+        one[table::HOLDS..table::STATIC] == other[table::HOLDS..table::STATIC]
             && (0..32).all(|s| permissions_of(one, s) == permissions_of(other, s))
     };
     number(sound(first).and_then(|one| Ok(yes_or_no(same(one, sound(second)?)))))

@@ -1,8 +1,8 @@
-//! The ten role requests on a table known to be sound, and the role set-up.
+//! The twelve role requests on a table known to be sound, and the role set-up.
 
 use crate::table::{
-    authorised, covered, has, is_effective, is_subset, openings_fit, Table, ACTIVE, ASSIGNED, GRANTED, HOLDS, OWNER,
-    PERMITTED,
+    all_hold, are_empty, authorised, covered, has, holds, is_bad_pair, is_effective, is_subset, openings_fit, Table,
+    ACTIVE, ASSIGNED, DYNAMIC, GRANTED, HOLDS, OWNER, PERMITTED, STATIC,
 };
 use crate::{yes_or_no, YES};
 
@@ -16,7 +16,7 @@ pub fn within(largest: [u64; 3], [a, b, c]: [u64; 3]) -> Result<[usize; 3], u64>
     }
 }
 
-/// A role request on a sound table: refusals 15, 16 and 17, then yes or no. (In the arm of each code its limits are
+/// A role request on a sound table: refusals 15, 16, 21 and 17, then yes or no. (In the arm of each code its limits are
 /// constants.)
 #[inline]
 pub fn serve(t: &mut Table, code: u64, a: u64, b: u64, c: u64) -> Result<u64, u64> {
@@ -28,10 +28,12 @@ pub fn serve(t: &mut Table, code: u64, a: u64, b: u64, c: u64) -> Result<u64, u6
         4 => within([31, 0, 0]).map(|[s, _, _]| end(t, s)),
         5 => within([31, 63, 0]).map(|[s, r, _]| activate(t, s, r)),
         6 => within([31, 63, 0]).map(|[s, r, _]| drop_role(t, s, r)),
-        7 => within([63, 63, 0]).map(|[u, r, _]| add(t, ASSIGNED + u, r)),
+        7 => within([63, 63, 0]).map(|[u, r, _]| assign(t, u, r)),
         8 => within([63, 63, 0]).map(|[u, r, _]| deassign(t, u, r)),
         9 => within([63, 7, 63]).and_then(|[r, x, o]| grant(t, r, x, o)),
         10 => within([63, 7, 63]).and_then(|[r, x, o]| revoke(t, r, x, o)),
+        11 => within([15, u64::MAX, u64::MAX]).and_then(|[set, _, _]| separate(t, STATIC + 2 * set, b, c)),
+        12 => within([15, u64::MAX, u64::MAX]).and_then(|[set, _, _]| separate(t, DYNAMIC + 2 * set, b, c)),
         _ => Err(15),
     };
     yes.map(yes_or_no)
@@ -65,7 +67,7 @@ pub fn close(t: &mut Table, s: usize, o: usize, x: usize) -> bool {
 }
 
 pub fn start(t: &mut Table, s: usize, u: usize, roles: u64) -> bool {
-    let yes = t[OWNER + s] == 0 && is_subset(roles, authorised(t, u));
+    let yes = t[OWNER + s] == 0 && is_subset(roles, authorised(t, u)) && dynamic_fit(t, roles);
     if yes {
         t[OWNER + s] = u as u64 + 1;
         t[ACTIVE + s] = roles;
@@ -83,11 +85,22 @@ pub fn end(t: &mut Table, s: usize) -> bool {
 
 fn activate(t: &mut Table, s: usize, r: usize) -> bool {
     let owner = t[OWNER + s] as usize;
-    owner != 0 && has(authorised(t, owner - 1), r) && add(t, ACTIVE + s, r)
+    owner != 0 && has(authorised(t, owner - 1), r) && dynamic_fit(t, t[ACTIVE + s] | 1 << r) && add(t, ACTIVE + s, r)
 }
 
 fn drop_role(t: &mut Table, s: usize, r: usize) -> bool {
     remove(t, ACTIVE + s, r, |t| openings_fit(t, s))
+}
+
+/// Whether active roles fit the dynamic sets.
+fn dynamic_fit(t: &Table, roles: u64) -> bool {
+    let sets = &t[DYNAMIC..];
+    are_empty(sets) || all_hold(sets, roles)
+}
+
+fn assign(t: &mut Table, u: usize, r: usize) -> bool {
+    let sets = &t[STATIC..DYNAMIC];
+    (are_empty(sets) || all_hold(sets, authorised(t, u) | t[r])) && add(t, ASSIGNED + u, r)
 }
 
 fn deassign(t: &mut Table, u: usize, r: usize) -> bool {
@@ -110,6 +123,21 @@ fn revoke(t: &mut Table, r: usize, x: usize, o: usize) -> Result<bool, u64> {
     }
     let at = GRANTED + 64 * x + o;
     Ok(remove(t, at, r, |t| (0..32).all(|s| !has(t[HOLDS + 8 * s + x], o) || t[at] & covered(t, t[ACTIVE + s]) != 0)))
+}
+
+/// Replaces the pair at a place where its set holds; refusal 21.
+fn separate(t: &mut Table, at: usize, mask: u64, bound: u64) -> Result<bool, u64> {
+    if is_bad_pair(mask, bound) {
+        return Err(21);
+    }
+    let yes = match at < DYNAMIC {
+        true => (0..64).all(|u| holds(mask, bound, authorised(t, u))),
+        false => (0..32).all(|s| holds(mask, bound, t[ACTIVE + s])),
+    };
+    if yes {
+        t[at..at + 2].copy_from_slice(&[mask, bound]);
+    }
+    Ok(yes)
 }
 
 /// The closure of the direct juniors, the permissions and nothing else; refusal 20.

@@ -1,4 +1,4 @@
-//! The table, authorised roles, effective permissions and soundness.
+//! The table, authorised roles, effective permissions, separation sets and soundness.
 
 pub const PERMITTED: usize = 64;
 pub const ASSIGNED: usize = 72;
@@ -6,7 +6,9 @@ pub const GRANTED: usize = 136;
 pub const OWNER: usize = 648;
 pub const ACTIVE: usize = 680;
 pub const HOLDS: usize = 712;
-pub const WORDS: usize = 968;
+pub const STATIC: usize = 968;
+pub const DYNAMIC: usize = 1000;
+pub const WORDS: usize = 1032;
 
 pub type Table = [u64; WORDS];
 
@@ -102,7 +104,49 @@ fn session_fits(t: &Table, s: usize) -> bool {
     roles_fit && openings_fit(t, s)
 }
 
+/// The number of members of a word.
+#[inline]
+fn size(word: u64) -> u64 {
+    word.count_ones().into()
+}
+
+/// Whether a mask and a bound are a pair of refusal 21.
+#[inline]
+pub fn is_bad_pair(mask: u64, bound: u64) -> bool {
+    mask | bound != 0 && (bound < 2 || bound > size(mask))
+}
+
+/// Whether the roles include fewer of the mask than the bound; an empty mask always holds.
+#[inline]
+pub fn holds(mask: u64, bound: u64, roles: u64) -> bool {
+    mask == 0 || size(mask & roles) < bound
+}
+
+/// Whether all sets of these pairs of mask and bound hold of the roles.
+#[inline]
+pub fn all_hold(pairs: &[u64], roles: u64) -> bool {
+    pairs.chunks_exact(2).all(|pair| holds(pair[0], pair[1], roles))
+}
+
+/// Whether all these pairs are empty.
+#[inline]
+pub fn are_empty(pairs: &[u64]) -> bool {
+    pairs.iter().fold(0, |all, word| all | word) == 0
+}
+
+/// Whether no pair is one of refusal 21, and every set holds of each user's or each session's roles.
+#[inline]
+fn sets_fit(t: &Table) -> bool {
+    are_empty(&t[STATIC..])
+        || t[STATIC..].chunks_exact(2).all(|pair| !is_bad_pair(pair[0], pair[1]))
+            && (0..64).all(|u| all_hold(&t[STATIC..DYNAMIC], authorised(t, u)))
+            && (0..32).all(|s| all_hold(&t[DYNAMIC..], t[ACTIVE + s]))
+}
+
 /// Whether the table is sound.
 pub fn is_sound(t: &Table) -> bool {
-    (0..64).all(|r| role_fits(t, r)) && (0..8).all(|x| grants_fit(t, x)) && (0..32).all(|s| session_fits(t, s))
+    (0..64).all(|r| role_fits(t, r))
+        && (0..8).all(|x| grants_fit(t, x))
+        && (0..32).all(|s| session_fits(t, s))
+        && sets_fit(t)
 }

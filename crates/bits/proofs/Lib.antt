@@ -4,3 +4,4 @@ pub mod Below
 pub mod Word
 pub mod Members
 pub mod Walk
+pub mod Counting

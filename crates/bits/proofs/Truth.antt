@@ -58,6 +58,16 @@ false-and b p = rw (p, _and_)
 pub and-false : (a : Bool) {b : Bool} → b ≡ false → a and b ≡ false
 and-false a q = is-false (λ e. clash (and-right a _ e) q)
 
+pub and-true : (a : Bool) {b : Bool} → b ≡ true → a and b ≡ a
+unfolding _and_
+and-true true e = e
+and-true false e = refl
+
+pub and-assoc : (a b c : Bool) → (a and b) and c ≡ a and (b and c)
+unfolding _and_
+and-assoc true b c = refl
+and-assoc false b c = refl
+
 pub and-comm : (a b : Bool) → a and b ≡ b and a
 and-comm a b =
     same-truth (λ e. and-intro (and-right a b e) (and-left a b e)) (λ e. and-intro (and-right b a e) (and-left b a e))

@@ -1,5 +1,5 @@
--- What holds of some number, of each or of some member of a word, and more words that are made of words.
-use Rattle.bits.specs.Words.{ℕ, zero, suc, _-_, _≤_, _<_, _≡_, Bool, true, false, not, eqb, _and_, _or_, _implies_, if_then_else_, has, all, pack}
+-- What holds of some number, of each or of some member of a word, how many it holds of, and more words that are made of words.
+use Rattle.bits.specs.Words.{ℕ, zero, suc, _+_, _-_, _≤_, _<_, _≡_, Bool, true, false, not, eqb, _and_, _or_, _implies_, if_then_else_, has, all, bit, pack}
 
 infixl 55 _without_
 -- f holds of some number below n: asked from 0 up, and no further than the first of which it does
@@ -32,6 +32,18 @@ _without_ w i = pack 64 (λ j. not (eqb j i) and has w j)
 -- the members of a and of b together
 unfoldable pub join : ℕ → ℕ → ℕ
 join a b = pack 64 (λ j. has a j or has b j)
+
+-- the members that a and b have in common
+unfoldable pub meet : ℕ → ℕ → ℕ
+meet a b = pack 64 (λ j. has a j and has b j)
+
+-- how many numbers below n f holds of, and how many members w has
+unfoldable pub count : ℕ → (ℕ → Bool) → ℕ
+count zero f = 0
+count (suc n) f = bit (f n) + count n f
+
+unfoldable pub size : ℕ → ℕ
+size w = count 64 (has w)
 
 -- the least number below n of which f holds, or 0 where there is none
 unfoldable pub least : ℕ → (ℕ → Bool) → ℕ

@@ -56,6 +56,20 @@ pub fn join(a: u64, b: u64) -> u64
     a | b
 }
 
+// The members that a and b have in common.
+pub fn meet(a: u64, b: u64) -> u64
+    ensures { λ r. ⌜ r ≡ Sets.meet a b ⌝ }
+{
+    a & b
+}
+
+// How many members w has.
+pub fn size(w: u64) -> u64
+    ensures { λ r. ⌜ r ≡ Sets.size w ⌝ }
+{
+    u64::count_ones(w) as u64
+}
+
 // The lowest member of w; 0 where it is empty.
 pub fn lowest(w: u64) -> usize
     ensures { λ r. ⌜ Sets.IsLowest w r ⌝ }

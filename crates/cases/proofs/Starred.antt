@@ -8,13 +8,14 @@ use Rattle.bits.specs.Words.{_and_, _or_, _implies_, if_then_else_, upd, has, a
 use Rattle.bits.specs.Sets.{each, any, some, overlap, _without_, join}
 use Rattle.table.specs.State.{State}
 use Rattle.table.specs.Authority.{covers, authorised, mayActivate, effective}
+use Rattle.table.specs.Separation.{emptyPair, fewer}
 use Rattle.table.specs.Sound.{Sound}
 use Rattle.table.specs.Table.{tabulate, encode}
 use Rattle.table.proofs.Table.{is-table}
 use Rattle.table.proofs.Tabulate.{length-tabulate}
 use Rattle.sound.specs.Answers.{isSound, openingsFit, sessionsFit, pairFits}
 use Rattle.roles.specs.Request.{Outcome, within}
-use Rattle.roles.specs.Roles.{isCode, limits, inRange, decode, known, changed}
+use Rattle.roles.specs.Roles.{isCode, limits, inRange, carriesBadPair, decode, known, changed}
 use Rattle.roles.specs.Guard.{allowedSound}
 use Rattle.roles.proofs.Playing.{stay, move, moved}
 use Rattle.roles.proofs.Requests.{sound-encode}
@@ -56,7 +57,7 @@ shows-met (compared a b w ∷ rest) S f h = (h .0, shows-met rest S f (h .1))
 shows-met (holds b ∷ rest) S f h = (h .0, shows-met rest S f (h .1))
 
 shown : Shows (fresh rows permissions) starred
-unfolding starred permissions fresh move stay isCode limits inRange within decode known changed allowedSound openingsFit sessionsFit pairFits covers authorised mayActivate effective upd has all any each some subset overlap bit pack _with_ _without_ if_then_else_ _and_ _or_ _implies_ class brands stands equalOrAbove
+unfolding starred permissions fresh move stay isCode limits inRange carriesBadPair within decode known changed allowedSound openingsFit sessionsFit pairFits covers authorised mayActivate effective fewer emptyPair upd has all any each some subset overlap bit pack _with_ _without_ if_then_else_ _and_ _or_ _implies_ class brands stands equalOrAbove
 shown = (refl, (refl, (refl, (refl, (refl, (refl, (refl, (refl, (refl, (refl, (refl, (refl, (refl, (refl, (refl, (refl, (refl, (refl, (refl, (refl, (refl, (refl, (refl, (refl, tt))))))))))))))))))))))))
 
 -- ---- on the table after the set-up

@@ -1,7 +1,7 @@
 // Runs the bench cases of the scope and the vectors of the sources through the compiled guard, and writes a row for each: its
 // number, its answer, and what it spent. Rows from 101: A to H and J; from 201: vector A of source 000; from 301: the scope's
 // label listing, and label 32; from 401: labels that are easily confused; from 501: how labels stand; from 601: wrong lengths and
-// values; from 701: starts with roles chosen.
+// values; from 701: starts with roles chosen; from 801: separation sets.
 ghost use mathlib.Core.Path.{_≡_};
 ghost use Prim.Native.Nat.{_≤_};
 ghost use lib.ListN.{length};
@@ -435,6 +435,87 @@ const CHOSEN: [u64; 64] = [
     0,
 ];
 
+// Role requests: sets over the roles 1, 3 and 5 with good and bad bounds, and assignments, starts and activations that would and
+// would not break one; sets 15 and 16, and code 13.
+const SETS: [u64; 76] = [
+    11,
+    16,
+    42,
+    1,
+    11,
+    0,
+    42,
+    1,
+    11,
+    0,
+    42,
+    0,
+    11,
+    0,
+    0,
+    2,
+    11,
+    0,
+    42,
+    4,
+    11,
+    0,
+    42,
+    3,
+    7,
+    2,
+    5,
+    0,
+    7,
+    2,
+    3,
+    0,
+    11,
+    0,
+    42,
+    2,
+    11,
+    0,
+    0,
+    0,
+    7,
+    2,
+    5,
+    0,
+    12,
+    0,
+    42,
+    2,
+    3,
+    0,
+    2,
+    32,
+    5,
+    0,
+    3,
+    0,
+    5,
+    0,
+    5,
+    0,
+    3,
+    1,
+    2,
+    40,
+    12,
+    15,
+    42,
+    2,
+    12,
+    16,
+    42,
+    2,
+    13,
+    0,
+    0,
+    0,
+];
+
 // Writes a row; whether it was written.
 fn show(number: u64, answer: u64, spent: u64) -> bool {
     let mut out = [0u8; 63];
@@ -573,7 +654,7 @@ fn confused_cases() -> bool {
     play_labels(&mut table, &CONFUSED, 401)
 }
 
-// Tables of 967 and 969 words, and label 32 in a set-up.
+// Tables a word short and a word long, and label 32 in a set-up.
 fn refused_cases() -> bool {
     let mut short = [0u64; WORDS - 1];
     let mut long = [0u64; WORDS + 1];
@@ -623,5 +704,8 @@ fn main() {
     if !refused_cases() {
         return;
     }
-    bench_table(&CHOSEN, 701);
+    if !bench_table(&CHOSEN, 701) {
+        return;
+    }
+    bench_table(&SETS, 801);
 }

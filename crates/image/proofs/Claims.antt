@@ -12,6 +12,7 @@ use Rattle.bits.proofs.Below.{all-intro, all-elim}
 use Rattle.bits.proofs.Word.{has-pack, pack-is, none-in}
 use Rattle.table.specs.State.{State}
 use Rattle.table.specs.Authority.{permission}
+use Rattle.table.specs.Separation.{setsEmpty}
 use Rattle.table.specs.Sound.{Sound}
 use Rattle.table.specs.Reading.{state}
 use Rattle.table.proofs.Agree.{Agree}
@@ -45,15 +46,18 @@ module _ (S : State) (f : Sound S) (words : (x o : ℕ) → S .granted x o < 2 ^
   unfolding isImage
   seniority-fits = and-left _ _ i
 
-  after-seniority : permissionsFit S and usersFit S and objectsFit S and levelsFit S ≡ true
+  after-seniority : permissionsFit S and usersFit S and objectsFit S and levelsFit S and setsEmpty S ≡ true
   unfolding isImage
   after-seniority = and-right (seniorityFits S) _ i
 
-  after-permissions : usersFit S and objectsFit S and levelsFit S ≡ true
+  after-permissions : usersFit S and objectsFit S and levelsFit S and setsEmpty S ≡ true
   after-permissions = and-right (permissionsFit S) _ after-seniority
 
-  after-users : objectsFit S and levelsFit S ≡ true
+  after-users : objectsFit S and levelsFit S and setsEmpty S ≡ true
   after-users = and-right (usersFit S) _ after-permissions
+
+  after-objects : levelsFit S and setsEmpty S ≡ true
+  after-objects = and-right (objectsFit S) _ after-users
 
   juniors-fit : (r : ℕ) → r < 64 → S .juniors r ≡ pack 64 (above r)
   unfolding seniorityFits
@@ -73,7 +77,7 @@ module _ (S : State) (f : Sound S) (words : (x o : ℕ) → S .granted x o < 2 ^
 
   active-fit : (s : ℕ) → s < 32 → S .active s ≡ seatRoles (m .seat s)
   unfolding levelsFit
-  active-fit s h = eqb-true _ _ (all-elim _ 32 (and-right (objectsFit S) _ after-users) s h)
+  active-fit s h = eqb-true _ _ (all-elim _ 32 (and-left _ _ after-objects) s h)
 
   -- no pair of the modes 2 to 7 is a permission
   no-permission : (x o : ℕ) → x < 8 → 2 ≤ x → o < 64 → permission S x o ≡ false
@@ -107,6 +111,7 @@ module _ (S : State) (f : Sound S) (words : (x o : ℕ) → S .granted x o < 2 ^
     owner = λ s h. sym (owner-of (S .owner s) (S .active s));
     active = active-fit;
     holds = holds-fit;
+    sets = λ i h. eqb-true _ 0 (all-elim _ 64 (and-right (levelsFit S) _ after-objects) i h);
   }
 
 pub read-ranged : (S : State) → Sound S → Ranged (machineOf S)
@@ -148,7 +153,8 @@ module _ (S : State) (m : Machine) (g : Ranged m) (a : Agree S (image.shown m)) 
       (and-intro (all-intro _ 8 (λ x h. eq-eqb _ _ (a .permitted x h)))
       (and-intro (all-intro _ 64 (λ u h. eq-eqb _ _ (a .assigned u h ∙ ap clearedRoles (sym (read-clearance u h)))))
       (and-intro (all-intro _ 64 (λ o h. and-intro (object-test 0 o (omega arith) h) (object-test 1 o (omega arith) h)))
-      (all-intro _ 32 (λ s h. eq-eqb _ _ (a .active s h ∙ ap seatRoles (sym (read-seat s h))))))))
+      (and-intro (all-intro _ 32 (λ s h. eq-eqb _ _ (a .active s h ∙ ap seatRoles (sym (read-seat s h)))))
+      (all-intro _ 64 (λ i h. eq-eqb _ 0 (a .sets i h)))))))
 
 pub image-means : ImageMeans
 image-means t w s =

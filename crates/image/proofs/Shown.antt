@@ -7,9 +7,12 @@ use lib.Dec.{eqb, ltb}
 use borrow.Author.Tests.{ne-eqb, eqb-true, lt-ltb, ltb-true, ltb-false}
 use Rattle.bits.specs.Words.{_and_, if_then_else_, has, pack}
 use Rattle.bits.proofs.Truth.{clash, by-truth, is-false, same-truth, and-intro, and-left, and-right}
+use Rattle.bits.proofs.Below.{all-intro}
 use Rattle.bits.proofs.Word.{has-pack, pack-none}
 use Rattle.table.specs.Authority.{senior, permission, idle, mayActivate, effective}
+use Rattle.table.specs.Separation.{setsEmpty}
 use Rattle.table.specs.Sound.{Sound}
+use Rattle.table.proofs.Separation.{separated-elim, empty-separated}
 use Rattle.table.proofs.State.{effective-intro, effective-elim, may-activate-user}
 use Rattle.machine.proofs.Order.{dominates}
 use Rattle.machine.specs.Machine as machine
@@ -31,6 +34,10 @@ module _ (m : Machine) where
   pub holds-is : (s x o : ℕ) → o < 64 → has (shown m .holds s x) o ≡ ltb x 2 and m .held s o x
   unfolding shown
   holds-is s x o h = has-pack (λ o. ltb x 2 and m .held s o x) 64 o h
+
+  pub no-sets : setsEmpty (shown m) ≡ true
+  unfolding shown
+  no-sets = all-intro _ 64 (λ i h. refl)
 
   -- ---- a session by its seat
 
@@ -220,6 +227,7 @@ module _ (m : Machine) where
         idle-no-openings = λ s x hs hx i. nothing-open s x hs (no-seat s i (m .seat s) refl);
         active-authorised = λ s r hs hr a. role-authorised s r hs hr (m .seat s) refl (sym (has-active s r refl) ∙ a);
         openings-effective = λ s x o hs hx ho a. opening-effective s x o hs ho a;
+        is-separated = separated-elim (shown m) (empty-separated (shown m) no-sets);
       }
         where
           junior-of : (r q : ℕ) → r < 64 → q < 64 → senior (shown m) r q ≡ true → Over r q

@@ -118,4 +118,5 @@ module _ (t clearances labels : List ℕ) (whole : length t ≡ tableLength) whe
         active = λ s h. late (680 + s) (omega arith) (omega arith);
         holds = λ s x h k.
             late (712 + 8 * s + x) (omega arith) (omega arith) ∙ sym (pack-none 64 (λ o l. and-false (ltb x 2) refl));
+        sets = λ i h. late (968 + i) (omega arith) (omega arith);
       })

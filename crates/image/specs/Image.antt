@@ -41,6 +41,7 @@ shown m = record {
   owner = λ s. seatOwner (m .seat s);
   active = λ s. seatRoles (m .seat s);
   holds = λ s x. pack 64 (λ o. ltb x 2 and m .held s o x);
+  sets = λ i. 0;
 }
 
 abbrev pub image : Machine → List ℕ

@@ -2,6 +2,7 @@
 use Rattle.bits.specs.Words.{ℕ, zero, suc, _%_, _<_, _≡_, Bool, List, eqb, _and_, has, all, pack}
 use Rattle.bits.specs.Sets.{lowest}
 use Rattle.table.specs.State.{State}
+use Rattle.table.specs.Separation.{setsEmpty}
 use Rattle.table.specs.Table.{isTable}
 use Rattle.table.specs.Reading.{state}
 use Rattle.machine.specs.Machine.{Machine, Seat, idle, at}
@@ -48,10 +49,10 @@ objectsFit S =
 unfoldable pub levelsFit : State → Bool
 levelsFit S = all 32 (λ s. eqb (S .active s) (seatRoles (machineOf S .seat s)))
 
--- a sound state is the image of the machine state that it shows. The users of its sessions and its openings are the machine's,
+-- a sound state is the image of the machine state that it shows; it has no separation sets (02, S-4). The users of its sessions and its openings are the machine's,
 -- whatever they are; and where modes 2 to 7 have no permissions, nothing is granted or open in them.
 unfoldable pub isImage : State → Bool
-isImage S = seniorityFits S and permissionsFit S and usersFit S and objectsFit S and levelsFit S
+isImage S = seniorityFits S and permissionsFit S and usersFit S and objectsFit S and levelsFit S and setsEmpty S
 
 -- what `is_image` answers: no for a list that is no table
 unfoldable pub showsImage : List ℕ → Bool

@@ -211,7 +211,10 @@ pub fn is_image(t: &[u64]) -> bool
     if !objects_fit(t) {
         return false;
     }
-    levels_fit(t)
+    if !levels_fit(t) {
+        return false;
+    }
+    sound::sets_empty(t)
 }
 
 // How the labels of two numbers stand.

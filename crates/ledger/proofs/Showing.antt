@@ -18,7 +18,7 @@ use Rattle.sound.proofs.Answers.{sound-state, sound-table}
 use Rattle.roles.specs.Request.{Ask, ask, Outcome, refuse, decide, accept}
 use Rattle.roles.specs.Roles.{inRange, decode, known, allowed}
 use Rattle.roles.specs.Guard.{roleStep}
-use Rattle.roles.proofs.Codes.{is-code}
+use Rattle.roles.proofs.Codes.{is-code, no-pair}
 use Rattle.roles.proofs.Serving.{served-known, served-unknown}
 use Rattle.roles.proofs.Guarding.{checked-argument, checked-served, role-step-sound}
 use Rattle.setup.specs.Closure.{closure, acyclic}
@@ -68,11 +68,12 @@ role-shows : (t : List ℕ) (q : Ask) → isSound t ≡ true → 1 ≤ q .code �
 unfolding shows _or_
 role-shows t q s l h =
     let e = role-step-sound t q (sound-table t s) (sound-state t s) in
-    let c = is-code q l h in
+    let c = is-code q l (omega arith) in
+    let b = no-pair q h in
     by-truth (inRange q)
     (λ r. by-truth (known (state t) (decode q))
-    (λ k. shows-as (e ∙ checked-served allowed t q c r ∙ served-known allowed t (decode q) k) (shows-decided (allowed (state t) (decode q)) 1 1 _ t))
-    (λ k. shows-as (e ∙ checked-served allowed t q c r ∙ served-unknown allowed t (decode q) k) refl))
+    (λ k. shows-as (e ∙ checked-served allowed t q c r b ∙ served-known allowed t (decode q) k) (shows-decided (allowed (state t) (decode q)) 1 1 _ t))
+    (λ k. shows-as (e ∙ checked-served allowed t q c r b ∙ served-unknown allowed t (decode q) k) refl))
     (λ r. shows-as (e ∙ checked-argument allowed t q c r) refl)
 
 refused-shows : {o : Outcome (List ℕ)} (t : List ℕ) → o ≡ refuse 16 t → shows (o .answer) ≡ true

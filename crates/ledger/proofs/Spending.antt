@@ -12,10 +12,10 @@ use Rattle.bits.proofs.Truth.{by-truth, and-left, and-right}
 use Rattle.table.specs.Table.{isTable}
 use Rattle.table.specs.Reading.{state}
 use Rattle.roles.specs.Request.{Ask, Outcome, refuse, decide, accept}
-use Rattle.roles.specs.Roles.{isCode, inRange, decode, known}
+use Rattle.roles.specs.Roles.{isCode, inRange, carriesBadPair, decode, known}
 use Rattle.roles.specs.Guard.{allowedSound, soundStep}
 use Rattle.roles.proofs.Serving.{served-known, served-unknown}
-use Rattle.roles.proofs.Guarding.{checked-code, checked-argument, sound-step-table, sound-step-short, sound-step-served}
+use Rattle.roles.proofs.Guarding.{checked-code, checked-argument, checked-pair, sound-step-table, sound-step-short, sound-step-served}
 use Rattle.setup.specs.Closure.{closure, acyclic}
 use Rattle.setup.specs.SetUp.{roleSetUp}
 use Rattle.setup.proofs.SetUp.{set-up-short, set-up-lists, set-up-cycle, set-up-accepted}
@@ -31,11 +31,13 @@ module _ (t : List ℕ) (q : Ask) where
       let e = sound-step-table t q i in
       by-truth (isCode q)
       (λ c. by-truth (inRange q)
-      (λ r.
-      let d = sound-step-served t q i c r in
+      (λ r. by-truth (carriesBadPair q)
+      (λ b. f 21 (omega arith) (e ∙ checked-pair allowedSound t q c r b))
+      (λ b.
+      let d = sound-step-served t q i c r b in
       by-truth (known (state t) (decode q))
       (λ k. g _ _ (d ∙ served-known allowedSound t (decode q) k))
-      (λ k. f 17 (omega arith) (d ∙ served-unknown allowedSound t (decode q) k)))
+      (λ k. f 17 (omega arith) (d ∙ served-unknown allowedSound t (decode q) k))))
       (λ r. f 16 (omega arith) (e ∙ checked-argument allowedSound t q c r)))
       (λ c. f 15 (omega arith) (e ∙ checked-code allowedSound t q c)))
       (λ i. f 12 (omega arith) (sound-step-short t q i))

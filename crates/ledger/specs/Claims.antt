@@ -57,7 +57,7 @@ pub record Proper (d : Store) : Type 0 where
   pub clearances-known : areLabels (d .clearances) ≡ true
   pub labels-known : areLabels (d .labels) ≡ true
 
--- Which refusals does no line get? 12 to 15 and 18: with lists of their lengths a line shows none of them, and the lists keep
+-- Which refusals does no line get? 12 to 15, 18 and 21: with lists of their lengths a line shows none of them, and the lists keep
 -- their lengths.
 abbrev pub LineShows : Type 0
 LineShows = (d : Store) (l : Line) → StoreSound d → Proper d → (shows (step guarded d l .answer) ≡ true) × Proper (step guarded d l .state)

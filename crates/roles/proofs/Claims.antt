@@ -1,5 +1,5 @@
 -- The claims of specs/Claims.antt. Assumes nothing.
-use Prim.Native.Nat.{ℕ, _^_, _<_}
+use Prim.Native.Nat.{ℕ, _^_, _≤_, _<_}
 use mathlib.Core.Path.{_≡_, refl, sym, ap, ap₂, subst, _∙_}
 use mathlib.Core.Bool.{Bool, true, false, not}
 use mathlib.Core.List.{List, [], _∷_}
@@ -7,33 +7,36 @@ use native.Mathlib.Omega.{arith}
 use native.Mathlib.Nat.{le-of-suc-le-suc}
 use lib.Dec.{eqb}
 use borrow.Author.Tests.{eqb-true, eqb-false, not-true}
-use Rattle.bits.specs.Words.{_and_, _or_, upd, has, _with_}
+use Rattle.bits.specs.Words.{_and_, _or_, upd, has, all, _with_}
 use Rattle.bits.specs.Sets.{_without_}
-use Rattle.bits.proofs.Truth.{clash, by-truth, same-truth, and-intro, and-left, and-right, false-or, true-and, false-and, and-false, and-comm}
-use Rattle.bits.proofs.Below.{any-intro, any-elim}
+use Rattle.bits.proofs.Truth.{clash, by-truth, same-truth, and-intro, and-left, and-right, false-or, true-and, false-and, and-true, and-false, and-comm, past, stopped}
+use Rattle.bits.proofs.Below.{all-intro, all-elim, any-intro, any-elim}
 use Rattle.bits.proofs.Word.{has-with, has-without, with-there, without-absent}
 use Rattle.bits.proofs.Members.{each-intro, each-elim}
 use Rattle.table.specs.State.{State}
 use Rattle.table.specs.Authority.{senior, permission, idle, authorised, effective}
-use Rattle.table.specs.Sound.{Sound}
+use Rattle.table.specs.Separation.{mask, setsEmpty, separated}
+use Rattle.table.specs.Sound.{rolesSound, sound, Sound}
 use Rattle.table.specs.Reading.{state}
-use Rattle.table.specs.Table.{encode}
+use Rattle.table.specs.Table.{isTable, encode}
 use Rattle.table.proofs.State.{authorised-intro, authorised-elim, effective-intro, effective-elim}
-use Rattle.table.proofs.Sound.{sound-elim, sound-intro}
+use Rattle.table.proofs.Separation.{fewer-elim, fewer-intro, empty-separated}
+use Rattle.table.proofs.Sound.{sound-elim, sound-intro, sound-is}
 use Rattle.table.proofs.Table.{table-length}
-use Rattle.table.proofs.Agree.{Agree, agree-refl, sound-agree, upd-other, by-upd, upd-own, grid-same, agree-own-holds, agree-own-active, agree-own-assigned, agree-own-granted}
+use Rattle.table.proofs.Agree.{Agree, agree-refl, sound-agree, upd-other, by-upd, upd-own, grid-same, agree-own-holds, agree-own-active, agree-own-assigned, agree-own-granted, agree-own-set}
 use Rattle.table.proofs.Encode.{state-encode, encode-cong, encode-state, write-owner, write-active}
 use Rattle.sound.specs.Answers.{isSound}
 use Rattle.sound.proofs.Answers.{sound-state, sound-table}
 use Rattle.roles.specs.Request.{Ask, ask, Outcome}
-use Rattle.roles.specs.Roles.{Request, opens, closes, starts, ends, activates, drops, assigns, deassigns, grants, revokes, limits, inRange, decode, known, allowed, changed}
-use Rattle.roles.specs.Guard.{roleStep}
+use Rattle.roles.specs.Roles.{Request, opens, closes, starts, ends, activates, drops, assigns, deassigns, grants, revokes, separates, limits, inRange, decode, known, rolesAllow, allowed, changed}
+use Rattle.roles.specs.Guard.{roleStep, allowedSound}
 use Rattle.roles.specs.Served.{Ranged}
 use Rattle.roles.specs.Source.{Sigma, sigma, EP, opened, closed, tauOpen, tauClose, Same}
-use Rattle.roles.specs.Claims.{Unchanged, after, KeptSound, ServedSame, IsTableOne, OpenIsTableOne, CloseIsTableOne, StartMeans, StartWrites, idempotent, AddedAgain}
+use Rattle.roles.specs.Claims.{Unchanged, after, KeptSound, KeptApart, plainStep, WithoutSets, ServedSame, IsTableOne, OpenIsTableOne, CloseIsTableOne, StartMeans, StartWrites, idempotent, AddedAgain}
 use Rattle.roles.proofs.Serving.{decide-yes, decide-no}
-use Rattle.roles.proofs.Codes.{is-code}
-use Rattle.roles.proofs.Same.{step-same}
+use Rattle.roles.proofs.Codes.{next-code, is-code, is-code-elim, no-pair}
+use Rattle.roles.proofs.Guarding.{role-step-short, role-step-unsound, role-step-sound}
+use Rattle.roles.proofs.Same.{allowed-same, checked-by, step-same}
 use Rattle.roles.proofs.Steps.{Passed, passed, by-step, decided, in-reach, step-sound}
 use Rattle.roles.proofs.Requests.{within-intro}
 
@@ -62,6 +65,46 @@ pub kept-sound : KeptSound
 unfolding after
 kept-sound t [] s = s
 kept-sound t (q ∷ qs) s = kept-sound (roleStep t q .state) qs (step-sound t q s)
+
+pub kept-apart : KeptApart
+kept-apart t qs s = sound-elim _ (sound-state _ (kept-sound t qs s)) .is-separated
+
+-- codes 1 to 10 leave the sets
+same-sets : (S : State) (code a b c : ℕ) → 1 ≤ code → code ≤ 10 → changed S (decode (ask code a b c)) .sets ≡ S .sets
+unfolding changed decode
+same-sets S code a b c l h =
+    next-code P 0 refl
+    (next-code P 1 refl
+    (next-code P 2 refl
+    (next-code P 3 refl
+    (next-code P 4 refl
+    (next-code P 5 refl
+    (next-code P 6 refl
+    (next-code P 7 refl
+    (next-code P 8 refl
+    (next-code P 9 refl
+    (λ m. absurd (omega arith))))))))))) l
+  where
+    P : ℕ → Type 0
+    P k = changed S (decode (ask k a b c)) .sets ≡ S .sets
+
+unused : (S : State) (f : ℕ → ℕ) → setsEmpty S ≡ true → f ≡ S .sets → all 64 (λ i. eqb (f i) 0) ≡ true
+unused S f none e = ap (λ (w : ℕ → ℕ). all 64 (λ i. eqb (w i) 0)) e ∙ none
+
+pub without-sets : WithoutSets
+unfolding plainStep allowed
+without-sets t q none h =
+    let S = state t in
+    let same : sound S ≡ rolesSound S = sound-is S ∙ and-true _ (empty-separated S none) in
+    by-truth (isTable t)
+    (λ i. by-truth (rolesSound S)
+    (λ s.
+    role-step-sound t q i (same ∙ s)
+    ∙ checked-by allowed rolesAllow t q (λ c r b.
+    and-true _ (empty-separated _ (unused S _ none (same-sets S (q .code) (q .a) (q .b) (q .c) (is-code-elim q c .0) h))))
+    ∙ sym (past _ _ i ∙ past _ _ s))
+    (λ s. role-step-unsound t q i (same ∙ s) ∙ sym (past _ _ i ∙ stopped _ _ s)))
+    (λ i. role-step-short t q i ∙ sym (stopped _ _ i))
 
 pub served-same : ServedSame
 served-same t q s = step-same t q (sound-table t s) (sound-state t s)
@@ -164,13 +207,13 @@ module _ (t : List ℕ) (s o x : ℕ) (f : isSound t ≡ true) (hs : s < 32) (ho
   unfolding inRange limits decode known
   open-passed =
       passed t (ask 1 s o x) f (is-code _ (omega arith) (omega arith))
-      (within-intro _ 1 s o x (le-of-suc-le-suc hs) (le-of-suc-le-suc ho) (le-of-suc-le-suc hx)) refl
+      (within-intro _ 1 s o x (le-of-suc-le-suc hs) (le-of-suc-le-suc ho) (le-of-suc-le-suc hx)) (no-pair _ (omega arith)) refl
 
   close-passed : Passed t (ask 2 s o x)
   unfolding inRange limits decode known
   close-passed =
       passed t (ask 2 s o x) f (is-code _ (omega arith) (omega arith))
-      (within-intro _ 2 s o x (le-of-suc-le-suc hs) (le-of-suc-le-suc ho) (le-of-suc-le-suc hx)) refl
+      (within-intro _ 2 s o x (le-of-suc-le-suc hs) (le-of-suc-le-suc ho) (le-of-suc-le-suc hx)) (no-pair _ (omega arith)) refl
 
 -- a yes and a no, here and there
 module _ (t : List ℕ) {o : Outcome (List ℕ)} {τ : Outcome Sigma} where
@@ -188,22 +231,26 @@ module _ (t : List ℕ) {o : Outcome (List ℕ)} {τ : Outcome Sigma} where
   }
 
 pub open-is-table-one : OpenIsTableOne
-unfolding tauOpen allowed decode
+unfolding tauOpen allowedSound decode
 open-is-table-one t s o x f hs ho hx =
     let p = open-passed t s o x f hs ho hx in
     let S = state t in
     let q = EP-effective S s x o hs hx ho in
+    let same = allowed-same S (sound-elim S (sound-state t f)) (opens s o x) (hs, ho, hx) in
     by-truth (effective S s x o)
     (λ a.
     yes-one t (changed S (opens s o x)) (opened (sigma S) s o x)
-    (decided t (ask 1 s o x) p ∙ decide-yes 1 1 _ t a) (decide-yes 1 1 _ _ (q ∙ a)) (opened-sigma S s o x))
-    (λ a. no-one t (decided t (ask 1 s o x) p ∙ decide-no 1 1 _ t a) (decide-no 1 1 _ _ (q ∙ a)))
+    (decided t (ask 1 s o x) p ∙ decide-yes 1 1 _ t (sym same ∙ a)) (decide-yes 1 1 _ _ (q ∙ a)) (opened-sigma S s o x))
+    (λ a. no-one t (decided t (ask 1 s o x) p ∙ decide-no 1 1 _ t (sym same ∙ a)) (decide-no 1 1 _ _ (q ∙ a)))
 
 pub close-is-table-one : CloseIsTableOne
-unfolding tauClose allowed decode
+unfolding tauClose allowedSound decode
 close-is-table-one t s o x f hs ho hx =
-    yes-one t (changed (state t) (closes s o x)) (closed (sigma (state t)) s o x)
-    (decided t (ask 2 s o x) (close-passed t s o x f hs ho hx) ∙ decide-yes 1 1 _ t refl) (decide-yes 1 1 _ _ refl) (closed-sigma (state t) s o x)
+    let S = state t in
+    yes-one t (changed S (closes s o x)) (closed (sigma S) s o x)
+    (decided t (ask 2 s o x) (close-passed t s o x f hs ho hx)
+    ∙ decide-yes 1 1 _ t (sym (allowed-same S (sound-elim S (sound-state t f)) (closes s o x) (hs, ho, hx))))
+    (decide-yes 1 1 _ _ refl) (closed-sigma S s o x)
 
 -- ---- a start
 
@@ -217,21 +264,27 @@ module _ (t : List ℕ) (q : Ask) (p : Passed t q) where
       (λ a. let z = sym (answer-of (decided t q p ∙ decide-no 1 1 _ t a)) ∙ e in absurd (omega arith))
 
 pub start-means : StartMeans
-unfolding inRange limits decode known allowed
+unfolding inRange limits decode known allowedSound
 start-means t s u roles f hs hu hr =
     let S = state t in
     let q = ask 3 s u roles in
     let p =
     passed t q f (is-code q (omega arith) (omega arith))
-    (within-intro _ 3 s u roles (le-of-suc-le-suc hs) (le-of-suc-le-suc hu) (le-of-suc-le-suc hr)) refl in (
+    (within-intro _ 3 s u roles (le-of-suc-le-suc hs) (le-of-suc-le-suc hu) (le-of-suc-le-suc hr)) (no-pair q (omega arith)) refl in
+    let same = allowed-same S (sound-elim S (sound-state t f)) (starts s u roles) (hs, hu) in (
       λ e.
-          let a = yes-allowed t q p e in
+          let a = same ∙ yes-allowed t q p e in
+          let b = and-right (idle S s) _ a in
           record {
             is-idle = and-left _ _ a;
-            all-authorised = λ r h m. authorised-elim S u r (each-elim roles (authorised S u) (and-right (idle S s) _ a) r h m);
+            all-authorised = λ r h m. authorised-elim S u r (each-elim roles (authorised S u) (and-left _ _ b) r h m);
+            breaks-none = λ n h. fewer-elim _ _ (has roles) (all-elim _ 16 (and-right _ _ b) n h);
           },
       λ m. allowed-yes t q p
-          (and-intro (m .is-idle) (each-intro roles (authorised S u) (λ r h k. authorised-intro S u r (m .all-authorised r h k)))),
+          (sym same
+          ∙ and-intro (m .is-idle)
+          (and-intro (each-intro roles (authorised S u) (λ r h k. authorised-intro S u r (m .all-authorised r h k)))
+          (all-intro _ 16 (λ n h. fewer-intro _ _ (has roles) (m .breaks-none n h))))),
     )
 
 pub start-writes : StartWrites
@@ -261,25 +314,35 @@ module _ (S : State) (f : Sound S) (w : Words S) where
   same-state (deassigns u r) h i = agree-own-assigned S u (without-absent (S .assigned u) r (w .assigned-word u) (not-true _ i))
   same-state (grants r x o) h i = agree-own-granted S x o (with-there (S .granted x o) r (w .granted-word x o) i)
   same-state (revokes r x o) h i = agree-own-granted S x o (without-absent (S .granted x o) r (w .granted-word x o) (not-true _ i))
+  same-state (separates n m b) h i = agree-own-set S n (sym (eqb-true _ m (and-left _ _ i))) (sym (eqb-true _ b (and-right (eqb (mask S n) m) _ i)))
+
+  -- and is sound
+  sound-again : (r : Request) → Ranged r → idempotent S r ≡ true → rolesSound (changed S r) and separated (changed S r) ≡ true
+  sound-again r h i = sym (sound-is _) ∙ sound-agree (same-state r h i) ∙ sound-intro S f
 
   -- and the answer is yes
+  rules-allow : (r : Request) → Ranged r → idempotent S r ≡ true → rolesAllow S r ≡ true
+  unfolding rolesAllow idempotent
+  rules-allow (opens s o x) h i = f .openings-effective s x o (h .0) (h .2) (h .1) i
+  rules-allow (closes s o x) h i = refl
+  rules-allow (starts s u roles) h i = clash i refl
+  rules-allow (ends s) h i = clash i refl
+  rules-allow (activates s r) h i = f .active-authorised s r (h .0) (h .1) i
+  rules-allow (drops s r) h i = and-left _ _ (sound-again (drops s r) h i)
+  rules-allow (assigns u r) h i = refl
+  rules-allow (deassigns u r) h i = and-left _ _ (sound-again (deassigns u r) h i)
+  rules-allow (grants r x o) h i = refl
+  rules-allow (revokes r x o) h i = and-left _ _ (sound-again (revokes r x o) h i)
+  rules-allow (separates n m b) h i = and-left _ _ (sound-again (separates n m b) h i)
+
   is-allowed : (r : Request) → Ranged r → idempotent S r ≡ true → allowed S r ≡ true
-  unfolding allowed idempotent
-  is-allowed (opens s o x) h i = f .openings-effective s x o (h .0) (h .2) (h .1) i
-  is-allowed (closes s o x) h i = refl
-  is-allowed (starts s u roles) h i = clash i refl
-  is-allowed (ends s) h i = clash i refl
-  is-allowed (activates s r) h i = f .active-authorised s r (h .0) (h .1) i
-  is-allowed (drops s r) h i = sound-agree (same-state (drops s r) h i) ∙ sound-intro S f
-  is-allowed (assigns u r) h i = refl
-  is-allowed (deassigns u r) h i = sound-agree (same-state (deassigns u r) h i) ∙ sound-intro S f
-  is-allowed (grants r x o) h i = refl
-  is-allowed (revokes r x o) h i = sound-agree (same-state (revokes r x o) h i) ∙ sound-intro S f
+  unfolding allowed
+  is-allowed r h i = and-intro (rules-allow r h i) (and-right (rolesSound (changed S r)) _ (sound-again r h i))
 
 pub added-again : AddedAgain
-added-again t q w f c r k i =
+added-again t q w f c r b k i =
     let S = state t in
-    let p = passed t q f c r k in
+    let p = passed t q f c r b k in
     let v : Words S = record { assigned-word = λ u. w _; granted-word = λ x o. w _; active-word = λ s. w _; holds-word = λ s x. w _ } in
     let g = sound-elim S (sound-state t f) in
     let d = decided t q p ∙ decide-yes 1 1 _ t (is-allowed S g v (decode q) (in-reach t q p) i) in

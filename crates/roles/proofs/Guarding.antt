@@ -3,18 +3,20 @@ use Prim.Native.Nat.{ℕ, _≤_}
 use mathlib.Core.Path.{_≡_, refl, sym, ap, _∙_}
 use mathlib.Core.Bool.{Bool, true, false}
 use mathlib.Core.List.{List}
+use native.Mathlib.Omega.{arith}
 use lib.ListN.{length}
 use Rattle.bits.proofs.Truth.{if-true, if-false, past, stopped}
 use Rattle.table.specs.State.{State}
+use Rattle.table.specs.Separation.{badPair}
 use Rattle.table.specs.Sound.{sound}
 use Rattle.table.specs.Reading.{state}
 use Rattle.table.specs.Table.{tableLength, isTable}
 use Rattle.table.proofs.Table.{is-table}
 use Rattle.roles.specs.Request.{Ask, ask, Outcome, refuse}
-use Rattle.roles.specs.Roles.{Request, isCode, inRange, decode, known, allowed}
+use Rattle.roles.specs.Roles.{Request, isCode, inRange, carriesBadPair, decode, known, allowed}
 use Rattle.roles.specs.Guard.{served, checked, roleStep, allowedSound, soundStep}
 use Rattle.roles.specs.Served.{Fit, Served}
-use Rattle.roles.proofs.Codes.{is-code, ranged, Paired, paired}
+use Rattle.roles.proofs.Codes.{is-code, no-pair, pair-carried, ranged, Paired, paired, set-known}
 use Rattle.roles.proofs.Serving.{decide-yes, decide-no, served-known}
 
 module _ (test : State → Request → Bool) (t : List ℕ) (q : Ask) where
@@ -26,9 +28,13 @@ module _ (test : State → Request → Bool) (t : List ℕ) (q : Ask) where
   unfolding checked
   checked-argument c r = past _ _ c ∙ stopped _ _ r
 
-  pub checked-served : isCode q ≡ true → inRange q ≡ true → checked test t q ≡ served test t (decode q)
+  pub checked-pair : isCode q ≡ true → inRange q ≡ true → carriesBadPair q ≡ true → checked test t q ≡ refuse 21 t
   unfolding checked
-  checked-served c r = past _ _ c ∙ past _ _ r
+  checked-pair c r b = past _ _ c ∙ past _ _ r ∙ if-true _ _ b
+
+  pub checked-served : isCode q ≡ true → inRange q ≡ true → carriesBadPair q ≡ false → checked test t q ≡ served test t (decode q)
+  unfolding checked
+  checked-served c r b = past _ _ c ∙ past _ _ r ∙ if-false _ _ b
 
 module _ (t : List ℕ) (q : Ask) where
   pub sound-step-table : isTable t ≡ true → soundStep t q ≡ checked allowedSound t q
@@ -39,8 +45,9 @@ module _ (t : List ℕ) (q : Ask) where
   unfolding soundStep
   sound-step-short i = stopped _ _ i
 
-  pub sound-step-served : isTable t ≡ true → isCode q ≡ true → inRange q ≡ true → soundStep t q ≡ served allowedSound t (decode q)
-  sound-step-served i c r = sound-step-table i ∙ checked-served allowedSound t q c r
+  pub sound-step-served : isTable t ≡ true → isCode q ≡ true → inRange q ≡ true → carriesBadPair q ≡ false
+      → soundStep t q ≡ served allowedSound t (decode q)
+  sound-step-served i c r b = sound-step-table i ∙ checked-served allowedSound t q c r b
 
   pub role-step-short : isTable t ≡ false → roleStep t q ≡ refuse 12 t
   unfolding roleStep
@@ -88,7 +95,7 @@ both c = (c .answer, c .table)
 pub both-to : {t′ : List ℕ} {n : ℕ} {o o′ : Outcome (List ℕ)} → o ≡ o′ → (n ≡ o′ .answer) × (t′ ≡ o′ .state) → (n ≡ o .answer) × (t′ ≡ o .state)
 both-to e c = both (comes-to e (record { answer = c .0; table = c .1 }))
 
--- ---- past refusals 12, 15 and 16
+-- ---- past refusals 12, 15, 16 and 21
 
 pub record Ready (t : List ℕ) (code a b c : ℕ) : Type 0 where
   pub fit : Fit t (decode (ask code a b c))
@@ -97,9 +104,28 @@ pub record Ready (t : List ℕ) (code a b c : ℕ) : Type 0 where
 
 pub ready : (t : List ℕ) (code a b c : ℕ) → length t ≡ tableLength → 1 ≤ code → code ≤ 10 → inRange (ask code a b c) ≡ true → Ready t code a b c
 ready t code a b c e l h i =
-    let r = ranged code a b c l h i in
+    let q = ask code a b c in
+    let n = no-pair q h in
+    let r = ranged code a b c l (omega arith) i n in
     record {
       fit = record { whole = e; ranged = r };
       pair = paired (state t) code a b c l h r;
-      step = sound-step-served t (ask code a b c) (is-table t e) (is-code (ask code a b c) l h) i;
+      step = sound-step-served t q (is-table t e) (is-code q l (omega arith)) i n;
+    }
+
+-- the same of a code that carries a pair
+pub record ReadySet (t : List ℕ) (code a b c : ℕ) : Type 0 where
+  pub fit : Fit t (decode (ask code a b c))
+  pub is-known : known (state t) (decode (ask code a b c)) ≡ true
+  pub step : soundStep t (ask code a b c) ≡ served allowedSound t (decode (ask code a b c))
+
+pub ready-set : (t : List ℕ) (code a b c : ℕ) → length t ≡ tableLength → 11 ≤ code → code ≤ 12 → inRange (ask code a b c) ≡ true
+    → badPair b c ≡ false → ReadySet t code a b c
+ready-set t code a b c e l h i g =
+    let q = ask code a b c in
+    let n = pair-carried q l h ∙ g in
+    record {
+      fit = record { whole = e; ranged = ranged code a b c (omega arith) h i n };
+      is-known = set-known (state t) code a b c l h;
+      step = sound-step-served t q (is-table t e) (is-code q (omega arith) h) i n;
     }

@@ -13,12 +13,14 @@ use Rattle.bits.proofs.Members.{not-empty, each-elim}
 use Rattle.table.specs.State.{State}
 use Rattle.table.specs.Authority.{idle, permission, authorised, mayActivate, effective}
 use Rattle.table.specs.Changes.{withAssigned, withGranted, withOwner, withActive, withHolds}
+use Rattle.table.specs.Separation.{Separated}
 use Rattle.table.specs.Sound.{Sound}
-use Rattle.table.proofs.Sound.{sound-elim}
+use Rattle.table.proofs.Separation.{separated-elim}
+use Rattle.table.proofs.Sound.{sound-elim, sound-is}
 use Rattle.table.proofs.State.{may-activate-idle, may-activate-user}
 use Rattle.table.proofs.Agree.{upd-same, by-upd, grid-same}
 use Rattle.table.proofs.Keeps.{no-roles-none-effective, authorised-same, authorised-more, effective-more, holds-keeps, active-keeps, assigned-keeps, granted-keeps, start-keeps, end-keeps}
-use Rattle.roles.specs.Roles.{Request, opens, closes, starts, ends, activates, drops, assigns, deassigns, grants, revokes, known, allowed, changed}
+use Rattle.roles.specs.Roles.{Request, opens, closes, starts, ends, activates, drops, assigns, deassigns, grants, revokes, separates, known, rolesAllow, allowed, changed}
 use Rattle.roles.specs.Served.{Ranged}
 
 module _ (S : State) (f : Sound S) where
@@ -42,21 +44,24 @@ module _ (S : State) (f : Sound S) where
       (λ q. ap (λ (w : ℕ). w without o) (f .idle-no-openings s x hs hx i) ∙ without-none o)
       (λ q. f .idle-no-openings s y hs hy i))
 
-  activate-keeps : (s r : ℕ) → s < 32 → r < 64 → mayActivate S s r ≡ true → Sound (withActive S s (S .active s with r))
-  activate-keeps s r hs hr e =
+  activate-keeps : (s r : ℕ) → s < 32 → r < 64 → mayActivate S s r ≡ true
+      → Separated (withActive S s (S .active s with r)) → Sound (withActive S s (S .active s with r))
+  activate-keeps s r hs hr e d =
       active-keeps S f s (S .active s with r)
       (λ q hq m. with-elim (S .active s) r q hq m (λ j. ap (mayActivate S s) j ∙ e) (λ k. f .active-authorised s q hs hq k))
       (λ i. clash e (may-activate-idle S s r i))
       (λ x o hx ho m. effective-more S _ refl s x o refl (λ q hq k. k)
       (λ q hq k. ap (λ (w : ℕ). has w q) (upd-same (S .active) s (S .active s with r)) ∙ with-old (S .active s) r q hq k)
       (f .openings-effective s x o hs hx ho m))
+      d
 
-  assign-keeps : (u r : ℕ) → u < 64 → Sound (withAssigned S u (S .assigned u with r))
-  assign-keeps u r hu =
+  assign-keeps : (u r : ℕ) → u < 64 → Separated (withAssigned S u (S .assigned u with r)) → Sound (withAssigned S u (S .assigned u with r))
+  assign-keeps u r hu d =
       assigned-keeps S f u (S .assigned u with r)
       (λ s q hs hq o m. authorised-more S _ refl u q
       (λ p hp k. ap (λ (w : ℕ). has w p) (upd-same (S .assigned) u (S .assigned u with r)) ∙ with-old (S .assigned u) r p hp k)
       (sym (may-activate-user S s u q o) ∙ f .active-authorised s q hs hq m))
+      d
 
   grant-keeps : (r x o : ℕ) → x < 8 → o < 64 → permission S x o ≡ true → Sound (withGranted S x o (S .granted x o with r))
   grant-keeps r x o hx ho p =
@@ -66,12 +71,14 @@ module _ (S : State) (f : Sound S) where
       (λ q hq k. k)
       (f .openings-effective s x o hs hx ho m))
 
-  started : (s u roles : ℕ) → s < 32 → u < 64 → idle S s ≡ true → each roles (authorised S u) ≡ true → Sound (withActive (withOwner S s (suc u)) s roles)
-  started s u roles hs hu i k =
+  started : (s u roles : ℕ) → s < 32 → u < 64 → idle S s ≡ true → each roles (authorised S u) ≡ true
+      → Separated (withActive (withOwner S s (suc u)) s roles) → Sound (withActive (withOwner S s (suc u)) s roles)
+  started s u roles hs hu i k d =
       active-keeps given (start-keeps S f s u hs hu i) s roles
       (λ r hr m. may-activate-user given s u r owned ∙ authorised-same given S refl u r refl ∙ each-elim roles (authorised S u) k r hr m)
       (λ z. clash z (ap (λ (w : ℕ). eqb w 0) owned ∙ ne-eqb (suc u) 0 (λ e. omega arith)))
       (λ x o hx ho m. absurd (not-empty (S .holds s x) o m (f .idle-no-openings s x hs hx i)))
+      d
     where
       given : State
       given = withOwner S s (suc u)
@@ -80,14 +87,17 @@ module _ (S : State) (f : Sound S) where
       owned = upd-same (S .owner) s (suc u)
 
 pub changed-sound : (S : State) → Sound S → (r : Request) → Ranged r → known S r ≡ true → allowed S r ≡ true → Sound (changed S r)
-unfolding known allowed changed
-changed-sound S f (opens s o x) h k a = open-keeps S f s o x (h .0) (h .1) (h .2) a
+unfolding known allowed rolesAllow changed
+changed-sound S f (opens s o x) h k a = open-keeps S f s o x (h .0) (h .1) (h .2) (and-left _ _ a)
 changed-sound S f (closes s o x) h k a = close-keeps S f s o x (h .0) (h .2)
-changed-sound S f (starts s u roles) h k a = started S f s u roles (h .0) (h .1) (and-left _ _ a) (and-right (idle S s) _ a)
+changed-sound S f (starts s u roles) h k a =
+    let e = and-left _ _ a in
+    started S f s u roles (h .0) (h .1) (and-left _ _ e) (and-right (idle S s) _ e) (separated-elim _ (and-right _ _ a))
 changed-sound S f (ends s) h k a = end-keeps S f s
-changed-sound S f (activates s r) h k a = activate-keeps S f s r (h .0) (h .1) a
-changed-sound S f (drops s r) h k a = sound-elim _ a
-changed-sound S f (assigns u r) h k a = assign-keeps S f u r (h .0)
-changed-sound S f (deassigns u r) h k a = sound-elim _ a
+changed-sound S f (activates s r) h k a = activate-keeps S f s r (h .0) (h .1) (and-left _ _ a) (separated-elim _ (and-right _ _ a))
+changed-sound S f (drops s r) h k a = sound-elim _ (sound-is _ ∙ a)
+changed-sound S f (assigns u r) h k a = assign-keeps S f u r (h .0) (separated-elim _ (and-right _ _ a))
+changed-sound S f (deassigns u r) h k a = sound-elim _ (sound-is _ ∙ a)
 changed-sound S f (grants r x o) h k a = grant-keeps S f r x o (h .1) (h .2) k
-changed-sound S f (revokes r x o) h k a = sound-elim _ a
+changed-sound S f (revokes r x o) h k a = sound-elim _ (sound-is _ ∙ a)
+changed-sound S f (separates n m b) h k a = sound-elim _ (sound-is _ ∙ a)

@@ -10,21 +10,23 @@ use lib.ListN.{getD}
 use borrow.Author.Tests.{le-leb}
 use Rattle.bits.specs.Words.{_and_, upd, _with_}
 use Rattle.bits.specs.Sets.{each, _without_}
-use Rattle.bits.proofs.Truth.{and-intro}
+use Rattle.bits.proofs.Truth.{and-intro, and-true}
 use Rattle.table.specs.State.{State}
 use Rattle.table.specs.Authority.{idle, authorised, effective}
 use Rattle.table.specs.Changes.{withAssigned, withOwner, withActive, withHolds}
+use Rattle.table.specs.Separation.{setsEmpty}
 use Rattle.table.specs.Sound.{Sound}
 use Rattle.table.specs.Table.{encode}
 use Rattle.table.proofs.Sound.{sound-elim, sound-intro}
 use Rattle.sound.specs.Answers.{isSound, sessionsFit}
 use Rattle.sound.proofs.Answers.{shown-sound}
+use Rattle.sound.proofs.Parts.{empty-fits}
 use Rattle.roles.specs.Request.{Ask, ask, decide, within}
-use Rattle.roles.specs.Roles.{deassigns, limits, inRange, decode, known, allowed, changed}
+use Rattle.roles.specs.Roles.{limits, inRange, decode, known, changed}
 use Rattle.roles.specs.Guard.{roleStep, allowedSound}
-use Rattle.roles.proofs.Codes.{is-code}
+use Rattle.roles.proofs.Codes.{is-code, no-pair}
 use Rattle.roles.proofs.Same.{allowed-same}
-use Rattle.roles.proofs.Steps.{step-encode, step-sound}
+use Rattle.roles.proofs.Steps.{reach, step-encode, step-sound}
 
 -- arguments within a row of limits, of whatever code
 pub within-row : {r : Bool} {largest row : List ℕ} (code a b c : ℕ) → r ≡ within largest (ask 0 a b c) → largest ≡ row
@@ -49,52 +51,64 @@ pub next-sound : (S S′ : State) → Sound S → (q : Ask) → roleStep (encode
 next-sound S S′ f q e = sound-encode S′ (sym (ap isSound e) ∙ step-sound (encode S) q (encode-sound S f))
 
 module _ (S : State) (f : Sound S) where
+  -- a request that meets no refusal is decided by what it can break
+  decided-by : (q : Ask) → 1 ≤ q .code → q .code ≤ 10 → inRange q ≡ true → known S (decode q) ≡ true
+      → roleStep (encode S) q ≡ decide (allowedSound S (decode q)) 1 1 (encode (changed S (decode q))) (encode S)
+  decided-by q l h r k =
+      let c = is-code q l (omega arith) in
+      let b = no-pair q h in
+      step-encode S f q c r b k
+      ∙ ap (λ (d : Bool). decide d 1 1 (encode (changed S (decode q))) (encode S)) (sym (allowed-same S f (decode q) (reach S f q c r b)))
+
   pub open-is : (s o x : ℕ) → s < 32 → o < 64 → x < 8
       → roleStep (encode S) (ask 1 s o x)
       ≡ decide (effective S s x o) 1 1 (encode (withHolds S s (upd (S .holds s) x (S .holds s x with o)))) (encode S)
-  unfolding inRange limits decode known allowed changed
+  unfolding inRange limits decode known allowedSound changed
   open-is s o x hs ho hx =
-      step-encode S f (ask 1 s o x) (is-code _ (omega arith) (omega arith))
+      decided-by (ask 1 s o x) (omega arith) (omega arith)
       (within-intro _ 1 s o x (le-of-suc-le-suc hs) (le-of-suc-le-suc ho) (le-of-suc-le-suc hx)) refl
 
   pub close-is : (s o x : ℕ) → s < 32 → o < 64 → x < 8
       → roleStep (encode S) (ask 2 s o x)
       ≡ decide true 1 1 (encode (withHolds S s (upd (S .holds s) x (S .holds s x without o)))) (encode S)
-  unfolding inRange limits decode known allowed changed
+  unfolding inRange limits decode known allowedSound changed
   close-is s o x hs ho hx =
-      step-encode S f (ask 2 s o x) (is-code _ (omega arith) (omega arith))
+      decided-by (ask 2 s o x) (omega arith) (omega arith)
       (within-intro _ 2 s o x (le-of-suc-le-suc hs) (le-of-suc-le-suc ho) (le-of-suc-le-suc hx)) refl
-
-  pub start-is : (s u roles : ℕ) → s < 32 → u < 64 → roles < 2 ^ 64
-      → roleStep (encode S) (ask 3 s u roles)
-      ≡ decide (idle S s and each roles (authorised S u)) 1 1 (encode (withActive (withOwner S s (suc u)) s roles)) (encode S)
-  unfolding inRange limits decode known allowed changed
-  start-is s u roles hs hu hr =
-      step-encode S f (ask 3 s u roles) (is-code _ (omega arith) (omega arith))
-      (within-intro _ 3 s u roles (le-of-suc-le-suc hs) (le-of-suc-le-suc hu) (le-of-suc-le-suc hr)) refl
 
   pub end-is : (s : ℕ) → s < 32
       → roleStep (encode S) (ask 4 s 0 0)
       ≡ decide (not (idle S s)) 1 1 (encode (withHolds (withActive (withOwner S s 0) s 0) s (λ x. 0))) (encode S)
-  unfolding inRange limits decode known allowed changed
+  unfolding inRange limits decode known allowedSound changed
   end-is s hs =
-      step-encode S f (ask 4 s 0 0) (is-code _ (omega arith) (omega arith))
-      (within-intro _ 4 s 0 0 (le-of-suc-le-suc hs) (omega arith) (omega arith)) refl
-
-  pub assign-is : (u r : ℕ) → u < 64 → r < 64
-      → roleStep (encode S) (ask 7 u r 0) ≡ decide true 1 1 (encode (withAssigned S u (S .assigned u with r))) (encode S)
-  unfolding inRange limits decode known allowed changed
-  assign-is u r hu hr =
-      step-encode S f (ask 7 u r 0) (is-code _ (omega arith) (omega arith))
-      (within-intro _ 7 u r 0 (le-of-suc-le-suc hu) (le-of-suc-le-suc hr) (omega arith)) refl
+      decided-by (ask 4 s 0 0) (omega arith) (omega arith) (within-intro _ 4 s 0 0 (le-of-suc-le-suc hs) (omega arith) (omega arith)) refl
 
   -- a deassignment is judged by the active roles of the user's sessions
   pub deassign-is : (u r : ℕ) → u < 64 → r < 64
       → roleStep (encode S) (ask 8 u r 0)
       ≡ decide (sessionsFit (withAssigned S u (S .assigned u without r)) u) 1 1
       (encode (withAssigned S u (S .assigned u without r))) (encode S)
-  unfolding inRange limits decode known changed allowedSound
+  unfolding inRange limits decode known allowedSound changed
   deassign-is u r hu hr =
-      step-encode S f (ask 8 u r 0) (is-code _ (omega arith) (omega arith))
+      decided-by (ask 8 u r 0) (omega arith) (omega arith)
       (within-intro _ 8 u r 0 (le-of-suc-le-suc hu) (le-of-suc-le-suc hr) (omega arith)) refl
-      ∙ ap (λ (b : Bool). decide b 1 1 (encode (changed S (deassigns u r))) (encode S)) (sym (allowed-same S f (deassigns u r) (hu, hr)))
+
+  -- where no set is in use
+  module _ (none : setsEmpty S ≡ true) where
+    pub start-is : (s u roles : ℕ) → s < 32 → u < 64 → roles < 2 ^ 64
+        → roleStep (encode S) (ask 3 s u roles)
+        ≡ decide (idle S s and each roles (authorised S u)) 1 1 (encode (withActive (withOwner S s (suc u)) s roles)) (encode S)
+    unfolding inRange limits decode known allowedSound changed
+    start-is s u roles hs hu hr =
+        decided-by (ask 3 s u roles) (omega arith) (omega arith)
+        (within-intro _ 3 s u roles (le-of-suc-le-suc hs) (le-of-suc-le-suc hu) (le-of-suc-le-suc hr)) refl
+        ∙ ap (λ (b : Bool). decide (idle S s and b) 1 1 (encode (withActive (withOwner S s (suc u)) s roles)) (encode S))
+        (and-true _ (empty-fits S 16 _ (omega arith) none))
+
+    pub assign-is : (u r : ℕ) → u < 64 → r < 64
+        → roleStep (encode S) (ask 7 u r 0) ≡ decide true 1 1 (encode (withAssigned S u (S .assigned u with r))) (encode S)
+    unfolding inRange limits decode known allowedSound changed
+    assign-is u r hu hr =
+        decided-by (ask 7 u r 0) (omega arith) (omega arith)
+        (within-intro _ 7 u r 0 (le-of-suc-le-suc hu) (le-of-suc-le-suc hr) (omega arith)) refl
+        ∙ ap (λ (b : Bool). decide b 1 1 (encode (withAssigned S u (S .assigned u with r))) (encode S)) (empty-fits S 0 _ (omega arith) none)

@@ -1,7 +1,7 @@
 -- What a role request comes to: the refusals apart, a decision by the definitions. Assumes nothing.
 use Prim.Native.Nat.{ℕ, _<_}
-use mathlib.Core.Path.{_≡_, refl, ap, ap₂, _∙_}
-use mathlib.Core.Bool.{Bool, true, not}
+use mathlib.Core.Path.{_≡_, refl, sym, ap, ap₂, _∙_}
+use mathlib.Core.Bool.{Bool, true, false, not}
 use mathlib.Core.List.{List}
 use native.Mathlib.Omega.{arith}
 use Rattle.bits.specs.Words.{_and_, _with_}
@@ -9,21 +9,22 @@ use Rattle.bits.specs.Sets.{_without_}
 use Rattle.bits.proofs.Truth.{by-truth}
 use Rattle.bits.proofs.Members.{each-cong}
 use Rattle.table.specs.State.{State}
-use Rattle.table.specs.Sound.{sound, Sound}
+use Rattle.table.specs.Separation.{separated}
+use Rattle.table.specs.Sound.{rolesSound, sound, Sound}
 use Rattle.table.specs.Table.{isTable, encode}
 use Rattle.table.specs.Reading.{state}
-use Rattle.table.proofs.Sound.{sound-elim, sound-intro}
-use Rattle.table.proofs.Agree.{Agree, agree-sym, idle-agree, permission-agree, authorised-agree, may-activate-agree, effective-agree, sound-agree, agree-sound, upd-agree, agree-with-holds, agree-with-active, agree-with-owner, agree-with-assigned, agree-with-granted}
+use Rattle.table.proofs.Sound.{sound-elim, sound-intro, sound-is}
+use Rattle.table.proofs.Agree.{Agree, agree-sym, idle-agree, permission-agree, authorised-agree, may-activate-agree, effective-agree, sound-agree, agree-sound, upd-agree, agree-with-holds, agree-with-active, agree-with-owner, agree-with-assigned, agree-with-granted, agree-with-set, separated-agree}
 use Rattle.table.proofs.Encode.{state-encode, encode-cong}
 use Rattle.sound.specs.Answers.{isSound}
 use Rattle.sound.proofs.Answers.{sound-state, sound-table, shown-sound}
 use Rattle.roles.specs.Request.{Ask, Outcome, refuse, decide}
-use Rattle.roles.specs.Roles.{Request, opens, closes, starts, ends, activates, drops, assigns, deassigns, grants, revokes, isCode, inRange, decode, known, allowed, changed}
+use Rattle.roles.specs.Roles.{Request, opens, closes, starts, ends, activates, drops, assigns, deassigns, grants, revokes, separates, isCode, inRange, carriesBadPair, decode, known, rolesAllow, allowed, changed}
 use Rattle.roles.specs.Guard.{roleStep}
 use Rattle.roles.specs.Served.{Ranged}
 use Rattle.roles.proofs.Serving.{decide-yes, decide-no, served-known, served-unknown}
 use Rattle.roles.proofs.Codes.{is-code-elim, ranged}
-use Rattle.roles.proofs.Guarding.{checked-code, checked-argument, checked-served, role-step-short, role-step-unsound, role-step-sound}
+use Rattle.roles.proofs.Guarding.{checked-code, checked-argument, checked-pair, checked-served, role-step-short, role-step-unsound, role-step-sound}
 use Rattle.roles.proofs.Keeping.{changed-sound}
 
 -- ---- on any list
@@ -34,11 +35,12 @@ pub record Passed (t : List ℕ) (q : Ask) : Type 0 where
   pub is-sound : sound (state t) ≡ true
   pub code : isCode q ≡ true
   pub range : inRange q ≡ true
+  pub pair : carriesBadPair q ≡ false
   pub is-known : known (state t) (decode q) ≡ true
 
 module _ (t : List ℕ) (q : Ask) where
-  pub passed : isSound t ≡ true → isCode q ≡ true → inRange q ≡ true → known (state t) (decode q) ≡ true → Passed t q
-  passed f c r k = record { table = sound-table t f; is-sound = sound-state t f; code = c; range = r; is-known = k }
+  pub passed : isSound t ≡ true → isCode q ≡ true → inRange q ≡ true → carriesBadPair q ≡ false → known (state t) (decode q) ≡ true → Passed t q
+  passed f c r b k = record { table = sound-table t f; is-sound = sound-state t f; code = c; range = r; pair = b; is-known = k }
 
   pub by-step : {A : Type 0} → ((n : ℕ) → 1 < n → roleStep t q ≡ refuse n t → A) → (Passed t q → A) → A
   by-step f g =
@@ -48,11 +50,11 @@ module _ (t : List ℕ) (q : Ask) where
       let e = role-step-sound t q i s in
       by-truth (isCode q)
       (λ c. by-truth (inRange q)
-      (λ r.
-      let d = e ∙ checked-served allowed t q c r in
-      by-truth (known (state t) (decode q))
-      (λ k. g (record { table = i; is-sound = s; code = c; range = r; is-known = k }))
-      (λ k. f 17 (omega arith) (d ∙ served-unknown allowed t (decode q) k)))
+      (λ r. by-truth (carriesBadPair q)
+      (λ b. f 21 (omega arith) (e ∙ checked-pair allowed t q c r b))
+      (λ b. by-truth (known (state t) (decode q))
+      (λ k. g (record { table = i; is-sound = s; code = c; range = r; pair = b; is-known = k }))
+      (λ k. f 17 (omega arith) (e ∙ checked-served allowed t q c r b ∙ served-unknown allowed t (decode q) k))))
       (λ r. f 16 (omega arith) (e ∙ checked-argument allowed t q c r)))
       (λ c. f 15 (omega arith) (e ∙ checked-code allowed t q c)))
       (λ s. f 13 (omega arith) (role-step-unsound t q i s)))
@@ -61,11 +63,11 @@ module _ (t : List ℕ) (q : Ask) where
   pub decided : Passed t q → roleStep t q ≡ decide (allowed (state t) (decode q)) 1 1 (encode (changed (state t) (decode q))) t
   decided p =
       role-step-sound t q (p .table) (p .is-sound)
-      ∙ checked-served allowed t q (p .code) (p .range)
+      ∙ checked-served allowed t q (p .code) (p .range) (p .pair)
       ∙ served-known allowed t (decode q) (p .is-known)
 
   pub in-reach : Passed t q → Ranged (decode q)
-  in-reach p = let k = is-code-elim q (p .code) in ranged (q .code) (q .a) (q .b) (q .c) (k .0) (k .1) (p .range)
+  in-reach p = let k = is-code-elim q (p .code) in ranged (q .code) (q .a) (q .b) (q .c) (k .0) (k .1) (p .range) (p .pair)
 
   -- a sound table stays sound
   pub step-sound : isSound t ≡ true → isSound (roleStep t q .state) ≡ true
@@ -93,19 +95,29 @@ module _ {S S′ : State} (a : Agree S S′) where
   changed-agree (deassigns u r) h = agree-with-assigned a u (ap (λ (w : ℕ). w without r) (a .assigned u (h .0)))
   changed-agree (grants r x o) h = agree-with-granted a x o (ap (λ (w : ℕ). w with r) (a .granted x o (h .1) (h .2)))
   changed-agree (revokes r x o) h = agree-with-granted a x o (ap (λ (w : ℕ). w without r) (a .granted x o (h .1) (h .2)))
+  changed-agree (separates n m b) h = agree-with-set a n refl refl
+
+  apart : (r : Request) → Ranged r → separated (changed S r) ≡ separated (changed S′ r)
+  apart r h = separated-agree (changed-agree r h)
+
+  -- where the answer hangs on the changed state being sound
+  sound-after : (r : Request) → Ranged r → rolesSound (changed S r) and separated (changed S r) ≡ rolesSound (changed S′ r) and separated (changed S′ r)
+  sound-after r h = sym (sound-is _) ∙ sound-agree (changed-agree r h) ∙ sound-is _
 
   allowed-agree : Sound S → (r : Request) → Ranged r → allowed S r ≡ allowed S′ r
-  unfolding allowed
-  allowed-agree f (opens s o x) h = effective-agree a s x o (h .0) (h .2) (h .1)
-  allowed-agree f (closes s o x) h = refl
-  allowed-agree f (starts s u roles) h = ap₂ _and_ (idle-agree a s (h .0)) (each-cong roles (λ r l. authorised-agree a u r (h .1)))
-  allowed-agree f (ends s) h = ap not (idle-agree a s h)
-  allowed-agree f (activates s r) h = may-activate-agree a s r (h .0) (f .owners-known s (h .0))
-  allowed-agree f (drops s r) h = sound-agree (changed-agree (drops s r) h)
-  allowed-agree f (assigns u r) h = refl
-  allowed-agree f (deassigns u r) h = sound-agree (changed-agree (deassigns u r) h)
-  allowed-agree f (grants r x o) h = refl
-  allowed-agree f (revokes r x o) h = sound-agree (changed-agree (revokes r x o) h)
+  unfolding allowed rolesAllow
+  allowed-agree f (opens s o x) h = ap₂ _and_ (effective-agree a s x o (h .0) (h .2) (h .1)) (apart (opens s o x) h)
+  allowed-agree f (closes s o x) h = ap₂ _and_ refl (apart (closes s o x) h)
+  allowed-agree f (starts s u roles) h =
+      ap₂ _and_ (ap₂ _and_ (idle-agree a s (h .0)) (each-cong roles (λ r l. authorised-agree a u r (h .1)))) (apart (starts s u roles) h)
+  allowed-agree f (ends s) h = ap₂ _and_ (ap not (idle-agree a s h)) (apart (ends s) h)
+  allowed-agree f (activates s r) h = ap₂ _and_ (may-activate-agree a s r (h .0) (f .owners-known s (h .0))) (apart (activates s r) h)
+  allowed-agree f (drops s r) h = sound-after (drops s r) h
+  allowed-agree f (assigns u r) h = ap₂ _and_ refl (apart (assigns u r) h)
+  allowed-agree f (deassigns u r) h = sound-after (deassigns u r) h
+  allowed-agree f (grants r x o) h = ap₂ _and_ refl (apart (grants r x o) h)
+  allowed-agree f (revokes r x o) h = sound-after (revokes r x o) h
+  allowed-agree f (separates n m b) h = sound-after (separates n m b) h
 
   pub known-agree : (r : Request) → Ranged r → known S r ≡ known S′ r
   unfolding known
@@ -119,18 +131,20 @@ module _ {S S′ : State} (a : Agree S S′) where
   known-agree (deassigns u r) h = refl
   known-agree (grants r x o) h = permission-agree a x o (h .1)
   known-agree (revokes r x o) h = permission-agree a x o (h .1)
+  known-agree (separates n m b) h = refl
 
--- a request on the table of a sound state, with a code and arguments in range, that names a permission where it grants or revokes
-module _ (S : State) (f : Sound S) (q : Ask) (c : isCode q ≡ true) (r : inRange q ≡ true) where
+-- a request on the table of a sound state, with a code and arguments in range and no pair of error 21, that names a permission
+-- where it grants or revokes
+module _ (S : State) (f : Sound S) (q : Ask) (c : isCode q ≡ true) (r : inRange q ≡ true) (b : carriesBadPair q ≡ false) where
   table-sound : isSound (encode S) ≡ true
   table-sound = shown-sound S refl ∙ sound-intro S f
 
   pub reach : Ranged (decode q)
-  reach = let k = is-code-elim q c in ranged (q .code) (q .a) (q .b) (q .c) (k .0) (k .1) r
+  reach = let k = is-code-elim q c in ranged (q .code) (q .a) (q .b) (q .c) (k .0) (k .1) r b
 
   pub step-encode : known S (decode q) ≡ true → roleStep (encode S) q ≡ decide (allowed S (decode q)) 1 1 (encode (changed S (decode q))) (encode S)
   step-encode k =
       let a = state-encode S in
-      decided (encode S) q (passed (encode S) q table-sound c r (known-agree a (decode q) reach ∙ k))
-      ∙ ap₂ (λ (b : Bool) (t : List ℕ). decide b 1 1 t (encode S))
+      decided (encode S) q (passed (encode S) q table-sound c r b (known-agree a (decode q) reach ∙ k))
+      ∙ ap₂ (λ (d : Bool) (t : List ℕ). decide d 1 1 t (encode S))
       (allowed-agree a (agree-sound (agree-sym a) f) (decode q) reach) (encode-cong (changed-agree a (decode q) reach))

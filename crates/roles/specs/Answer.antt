@@ -1,7 +1,7 @@
--- 01's number for every answer and every refusal.
+-- The number of every answer and every refusal in 01 and 02.
 use Rattle.bits.specs.Words.{ℕ}
 use Rattle.roles.specs.declared.Refusal.{Refusal}
-use Rattle.roles.specs.declared.Refusal.the-variants.{WrongLength, Unsound, NoImage, BadCode, BadArgument, NoPermission, BadListLength, BadValue, Cycle}
+use Rattle.roles.specs.declared.Refusal.the-variants.{WrongLength, Unsound, NoImage, BadCode, BadArgument, NoPermission, BadListLength, BadValue, Cycle, BadPair}
 use Rattle.roles.specs.declared.Answer.{Answer}
 use Rattle.roles.specs.declared.Answer.the-variants.{Yes, No, Refused}
 
@@ -15,6 +15,7 @@ refusalNumber NoPermission = 17
 refusalNumber BadListLength = 18
 refusalNumber BadValue = 19
 refusalNumber Cycle = 20
+refusalNumber BadPair = 21
 
 abbrev pub numberOf : Answer → ℕ
 numberOf Yes = 1

@@ -1,14 +1,17 @@
 -- What is claimed of the role guard, each as the answer to a question. proofs/Claims.antt proves them.
 use mathlib.Core.Logic.{_↔_}
 use lib.ListN.{set}
-use Rattle.bits.specs.Words.{ℕ, suc, _^_, _<_, _≡_, Bool, true, false, not, List, [], _∷_, has}
+use Rattle.bits.specs.Words.{ℕ, suc, _+_, _^_, _≤_, _<_, _≡_, Bool, true, false, not, List, [], _∷_, eqb, _and_, if_then_else_, has}
 use Rattle.table.specs.State.{State}
 use Rattle.table.specs.Authority.{senior, permission, idle, Authorised}
+use Rattle.table.specs.Separation.{mask, bound, setsEmpty, Fewer, Separated}
+use Rattle.table.specs.Sound.{rolesSound}
+use Rattle.table.specs.Table.{isTable}
 use Rattle.table.specs.Reading.{word, ownerAt, activeAt, state}
 use Rattle.sound.specs.Answers.{isSound}
-use Rattle.roles.specs.Request.{Ask, ask, Outcome}
-use Rattle.roles.specs.Roles.{Request, opens, closes, starts, ends, activates, drops, assigns, deassigns, grants, revokes, isCode, inRange, decode, known}
-use Rattle.roles.specs.Guard.{roleStep, soundStep}
+use Rattle.roles.specs.Request.{Ask, ask, Outcome, refuse}
+use Rattle.roles.specs.Roles.{Request, opens, closes, starts, ends, activates, drops, assigns, deassigns, grants, revokes, separates, isCode, inRange, carriesBadPair, decode, rolesAllow, known}
+use Rattle.roles.specs.Guard.{checked, roleStep, soundStep}
 use Rattle.roles.specs.Source.{Sigma, sigma, tauOpen, tauClose, Same}
 
 -- Does a no or a refusal change the table? Not one word, of a list of any length and contents.
@@ -22,6 +25,22 @@ after t (q ∷ qs) = after (roleStep t q .state) qs
 
 abbrev pub KeptSound : Type 0
 KeptSound = (t : List ℕ) (qs : List Ask) → isSound t ≡ true → isSound (after t qs) ≡ true
+
+-- Are duties kept apart? After any list of requests from a sound table no user's authorised roles include as many roles of a
+-- static set, other than the empty pair, as its bound, and no session's active roles as many of a dynamic one (02, S-4).
+abbrev pub KeptApart : Type 0
+KeptApart = (t : List ℕ) (qs : List Ask) → isSound t ≡ true → Separated (state (after t qs))
+
+-- Do the sets change anything where none is in use? Not one answer or word, of a list of any length: there a request of code 1
+-- to 10 comes to what it comes to in the guard of 01, which knows no sets.
+unfoldable pub plainStep : List ℕ → Ask → Outcome (List ℕ)
+plainStep t q =
+    if not (isTable t) then refuse 12 t else
+    if not (rolesSound (state t)) then refuse 13 t else
+    checked rolesAllow t q
+
+abbrev pub WithoutSets : Type 0
+WithoutSets = (t : List ℕ) (q : Ask) → setsEmpty (state t) ≡ true → q .code ≤ 10 → roleStep t q ≡ plainStep t q
 
 -- Does it matter that `serve` leaves the soundness test out? Not on a sound table.
 abbrev pub ServedSame : Type 0
@@ -43,17 +62,19 @@ CloseIsTableOne =
     (t : List ℕ) (s o x : ℕ) → isSound t ≡ true → s < 32 → o < 64 → x < 8
     → IsTableOne t (roleStep t (ask 2 s o x)) (tauClose (sigma (state t)) s o x)
 
--- When is a start answered yes? Where the session is idle and every role of the set is authorised for the user (02, S-1).
+-- When is a start answered yes? Where the session is idle, every role of the mask is authorised for the user (02, S-1), and the
+-- mask includes fewer roles of each dynamic set than its bound (02, S-4).
 pub record MayStart (S : State) (s u roles : ℕ) : Type 0 where
   pub is-idle : idle S s ≡ true
   pub all-authorised : (r : ℕ) → r < 64 → has roles r ≡ true → Authorised S u r
+  pub breaks-none : (n : ℕ) → n < 16 → Fewer (mask S (16 + n)) (bound S (16 + n)) (has roles)
 
 abbrev pub StartMeans : Type 0
 StartMeans =
     (t : List ℕ) (s u roles : ℕ) → isSound t ≡ true → s < 32 → u < 64 → roles < 2 ^ 64
     → roleStep t (ask 3 s u roles) .answer ≡ 1 ↔ MayStart (state t) s u roles
 
--- What does a yes to it write? The session's user and its active roles, exactly those of the set, and no other word.
+-- What does a yes to it write? The session's user and its active roles, exactly those of the mask, and no other word.
 abbrev pub StartWrites : Type 0
 StartWrites =
     (t : List ℕ) (s u roles : ℕ) → roleStep t (ask 3 s u roles) .answer ≡ 1
@@ -71,6 +92,7 @@ idempotent S (assigns u r) = has (S .assigned u) r
 idempotent S (deassigns u r) = not (has (S .assigned u) r)
 idempotent S (grants r x o) = has (S .granted x o) r
 idempotent S (revokes r x o) = not (has (S .granted x o) r)
+idempotent S (separates n m b) = eqb (mask S n) m and eqb (bound S n) b
 
 -- 01: "What is there already may be added again, and what is absent removed, with yes and no change."
 pub record NoChange (t : List ℕ) (o : Outcome (List ℕ)) : Type 0 where
@@ -80,4 +102,4 @@ pub record NoChange (t : List ℕ) (o : Outcome (List ℕ)) : Type 0 where
 abbrev pub AddedAgain : Type 0
 AddedAgain =
     (t : List ℕ) (q : Ask) → ((i : ℕ) → word t i < 2 ^ 64) → isSound t ≡ true → isCode q ≡ true → inRange q ≡ true
-    → known (state t) (decode q) ≡ true → idempotent (state t) (decode q) ≡ true → NoChange t (roleStep t q)
+    → carriesBadPair q ≡ false → known (state t) (decode q) ≡ true → idempotent (state t) (decode q) ≡ true → NoChange t (roleStep t q)

@@ -1,10 +1,12 @@
--- The ten role requests: the table of 01 ("Role requests"), a line for each; start with its roles chosen (02, S-1).
-use Rattle.bits.specs.Words.{ℕ, suc, _-_, Bool, true, not, List, [], _∷_, leb, getD, _and_, upd, _with_}
+-- The role requests: the table of 01 ("Role requests"), a line for each of codes 1 to 10, start with its roles chosen (02, S-1);
+-- and the two that replace a separation set, codes 11 and 12 (02, S-4).
+use Rattle.bits.specs.Words.{ℕ, suc, _+_, _-_, Bool, true, not, List, [], _∷_, eqb, leb, getD, _and_, _or_, upd, _with_}
 use Rattle.bits.specs.Sets.{each, _without_}
 use Rattle.table.specs.State.{State}
 use Rattle.table.specs.Authority.{permission, idle, authorised, mayActivate, effective}
-use Rattle.table.specs.Changes.{withAssigned, withGranted, withOwner, withActive, withHolds}
-use Rattle.table.specs.Sound.{sound}
+use Rattle.table.specs.Changes.{withAssigned, withGranted, withOwner, withActive, withHolds, withSet}
+use Rattle.table.specs.Separation.{badPair, separated}
+use Rattle.table.specs.Sound.{rolesSound}
 use Rattle.roles.specs.Request.{Ask, within}
 
 pub data Request : Type 0 where
@@ -14,15 +16,16 @@ pub data Request : Type 0 where
   activates drops : (s r : ℕ) → Request
   assigns deassigns : (u r : ℕ) → Request
   grants revokes : (r x o : ℕ) → Request
+  separates : (n roles bound : ℕ) → Request
 
 -- ---- codes and arguments
 
--- 01: the code is 1 to 10
+-- the code is 1 to 12
 unfoldable pub isCode : Ask → Bool
-isCode q = leb 1 (q .code) and leb (q .code) 10
+isCode q = leb 1 (q .code) and leb (q .code) 12
 
 -- the largest value of each argument, a row for each code from 1 on; one that is not listed must be 0, and the roles of a start
--- are any 64-bit number
+-- and the roles and the bound of a set are any 64-bit numbers
 unfoldable pub limits : List (List ℕ)
 limits =
     (31 ∷ 63 ∷ 7 ∷ [])
@@ -35,12 +38,18 @@ limits =
     ∷ (63 ∷ 63 ∷ 0 ∷ [])
     ∷ (63 ∷ 7 ∷ 63 ∷ [])
     ∷ (63 ∷ 7 ∷ 63 ∷ [])
+    ∷ (15 ∷ 18446744073709551615 ∷ 18446744073709551615 ∷ [])
+    ∷ (15 ∷ 18446744073709551615 ∷ 18446744073709551615 ∷ [])
     ∷ []
 
 unfoldable pub inRange : Ask → Bool
 inRange q = within (getD limits (q .code - 1) []) q
 
--- the request of a code from 1 to 10
+-- codes 11 and 12 carry a pair, and it is one of error 21
+unfoldable pub carriesBadPair : Ask → Bool
+carriesBadPair q = (eqb (q .code) 11 or eqb (q .code) 12) and badPair (q .b) (q .c)
+
+-- the request of a code from 1 to 12; static set n is pair n, dynamic set n is pair 16 + n
 unfoldable pub decode : Ask → Request
 decode q =
     getD
@@ -54,9 +63,11 @@ decode q =
     ∷ deassigns (q .a) (q .b)
     ∷ grants (q .a) (q .b) (q .c)
     ∷ revokes (q .a) (q .b) (q .c)
+    ∷ separates (q .a) (q .b) (q .c)
+    ∷ separates (16 + q .a) (q .b) (q .c)
     ∷ [])
     (q .code - 1)
-    (revokes (q .a) (q .b) (q .c))
+    (separates (q .a) (q .b) (q .c))
 
 -- ---- what each request does
 
@@ -72,19 +83,25 @@ changed S (assigns u r) = withAssigned S u (S .assigned u with r)
 changed S (deassigns u r) = withAssigned S u (S .assigned u without r)
 changed S (grants r x o) = withGranted S x o (S .granted x o with r)
 changed S (revokes r x o) = withGranted S x o (S .granted x o without r)
+changed S (separates n roles bound) = withSet S n roles bound
 
--- the answer is yes
+-- the answer is yes, by the rules of 01 and where no set is looked at
+unfoldable pub rolesAllow : State → Request → Bool
+rolesAllow S (opens s o x) = effective S s x o
+rolesAllow S (closes s o x) = true
+rolesAllow S (starts s u roles) = idle S s and each roles (authorised S u)
+rolesAllow S (ends s) = not (idle S s)
+rolesAllow S (activates s r) = mayActivate S s r
+rolesAllow S (drops s r) = rolesSound (changed S (drops s r))
+rolesAllow S (assigns u r) = true
+rolesAllow S (deassigns u r) = rolesSound (changed S (deassigns u r))
+rolesAllow S (grants r x o) = true
+rolesAllow S (revokes r x o) = rolesSound (changed S (revokes r x o))
+rolesAllow S (separates n roles bound) = rolesSound (changed S (separates n roles bound))
+
+-- 02, S-4: and no set would be broken. Of a sound state only a start, an activation, an assignment and a new set can break one.
 unfoldable pub allowed : State → Request → Bool
-allowed S (opens s o x) = effective S s x o
-allowed S (closes s o x) = true
-allowed S (starts s u roles) = idle S s and each roles (authorised S u)
-allowed S (ends s) = not (idle S s)
-allowed S (activates s r) = mayActivate S s r
-allowed S (drops s r) = sound (changed S (drops s r))
-allowed S (assigns u r) = true
-allowed S (deassigns u r) = sound (changed S (deassigns u r))
-allowed S (grants r x o) = true
-allowed S (revokes r x o) = sound (changed S (revokes r x o))
+allowed S r = rolesAllow S r and separated (changed S r)
 
 -- a grant or revoke names a permission
 unfoldable pub known : State → Request → Bool
@@ -98,3 +115,4 @@ known S (assigns u r) = true
 known S (deassigns u r) = true
 known S (grants r x o) = permission S x o
 known S (revokes r x o) = permission S x o
+known S (separates n roles bound) = true

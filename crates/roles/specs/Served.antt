@@ -2,13 +2,14 @@
 use Rattle.bits.specs.Words.{ℕ, _<_, _≡_, Bool, true, List, ltb, length, if_then_else_}
 use Rattle.table.specs.State.{State}
 use Rattle.table.specs.Authority.{permission}
+use Rattle.table.specs.Separation.{GoodPair}
 use Rattle.table.specs.Changes.{withHolds}
 use Rattle.table.specs.Reading.{state}
 use Rattle.table.specs.Table.{tableLength, encode}
-use Rattle.roles.specs.Roles.{Request, opens, closes, starts, ends, activates, drops, assigns, deassigns, grants, revokes, changed}
+use Rattle.roles.specs.Roles.{Request, opens, closes, starts, ends, activates, drops, assigns, deassigns, grants, revokes, separates, changed}
 use Rattle.roles.specs.Guard.{allowedSound}
 
--- the users, roles, objects, sessions and modes that a request names are there
+-- the users, roles, objects, sessions, modes and sets that a request names are there, and no pair is one of error 21
 abbrev pub Ranged : Request → Type 0
 Ranged (opens s o x) = (s < 32) × (o < 64) × (x < 8)
 Ranged (closes s o x) = (s < 32) × (o < 64) × (x < 8)
@@ -20,6 +21,7 @@ Ranged (assigns u r) = (u < 64) × (r < 64)
 Ranged (deassigns u r) = (u < 64) × (r < 64)
 Ranged (grants r x o) = (r < 64) × (x < 8) × (o < 64)
 Ranged (revokes r x o) = (r < 64) × (x < 8) × (o < 64)
+Ranged (separates n roles bound) = (n < 32) × GoodPair roles bound
 
 -- a table and a request on what is there
 pub record Fit (t : List ℕ) (q : Request) : Type 0 where

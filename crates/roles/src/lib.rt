@@ -1,20 +1,21 @@
-// The role guard: ten requests on a lent table.
+// The role guard: twelve requests on a lent table.
 use table::layout::ACTIVE;
 use table::layout::ASSIGNED;
 use table::layout::GRANTED;
 use table::layout::HOLDS;
 use table::layout::OWNER;
 use table::layout::PERMITTED;
+use table::layout::SETS;
 use table::layout::WORDS;
 ghost use mathlib.Core.Path.{_≡_};
-ghost use Prim.Native.Nat.{_-_, _≤_, _<_};
+ghost use Prim.Native.Nat.{_*_, _-_, _≤_, _<_};
 ghost use mathlib.Core.List.{[]};
 ghost use lib.ListN.{length, getD};
 ghost use Rattle.table.specs.Reading.{state};
 ghost use Rattle.table.specs.Table.{tableLength};
 ghost use Rattle.roles.specs.Request;
 ghost use Rattle.roles.specs.Request.{ask};
-ghost use Rattle.roles.specs.Roles.{opens, closes, starts, ends, activates, drops, assigns, deassigns, grants, revokes, limits, decode};
+ghost use Rattle.roles.specs.Roles.{opens, closes, starts, ends, activates, drops, assigns, deassigns, grants, revokes, separates, limits, decode};
 ghost use Rattle.roles.specs.Guard.{roleStep, soundStep};
 ghost use Rattle.roles.specs.Answer.{refusalNumber, numberOf};
 ghost use Rattle.roles.specs.Served.{Fit, Served, pairKnown, closedAll};
@@ -30,6 +31,7 @@ pub enum Refusal {
     BadListLength,
     BadValue,
     Cycle,
+    BadPair,
 }
 
 pub enum Answer {
@@ -52,6 +54,7 @@ pub fn refusal_number(r: Refusal) -> u64
         Refusal::BadListLength => 18,
         Refusal::BadValue => 19,
         Refusal::Cycle => 20,
+        Refusal::BadPair => 21,
     }
 }
 
@@ -89,7 +92,7 @@ fn close(t: &mut [u64], s: usize, o: usize, x: usize) -> bool
     true
 }
 
-// The idle session s is given to user u with these roles active, where all of them are authorised for u.
+// The idle session s is given to user u with these roles active, where all of them are authorised for u and fit the dynamic sets.
 fn start(t: &mut [u64], s: usize, u: usize, roles: u64) -> bool
     requires { ⌜ Fit (now t) (starts s u roles) ⌝ }
     ensures { λ r. ⌜ Served (now (t .entry)) (now (t .exit)) r (starts s u roles) ⌝ }
@@ -98,6 +101,9 @@ fn start(t: &mut [u64], s: usize, u: usize, roles: u64) -> bool
         return false;
     }
     if !bits::subset(roles, table::authorised_roles(t, u)) {
+        return false;
+    }
+    if !sound::dynamic_fit(t, roles) {
         return false;
     }
     t[OWNER + s] = u as u64 + 1;
@@ -129,7 +135,7 @@ fn end(t: &mut [u64], s: usize) -> bool
     true
 }
 
-// Role r becomes active in session s.
+// Role r becomes active in session s, where it is authorised and the active roles then fit the dynamic sets.
 fn activate(t: &mut [u64], s: usize, r: usize) -> bool
     requires { ⌜ Fit (now t) (activates s r) ⌝ }
     ensures { λ a. ⌜ Served (now (t .entry)) (now (t .exit)) a (activates s r) ⌝ }
@@ -137,7 +143,11 @@ fn activate(t: &mut [u64], s: usize, r: usize) -> bool
     if !table::may_activate(t, s, r) {
         return false;
     }
-    t[ACTIVE + s] = bits::with(t[ACTIVE + s], r);
+    let more = bits::with(t[ACTIVE + s], r);
+    if !sound::dynamic_fit(t, more) {
+        return false;
+    }
+    t[ACTIVE + s] = more;
     true
 }
 
@@ -156,12 +166,16 @@ fn drop(t: &mut [u64], s: usize, r: usize) -> bool
     false
 }
 
-// Role r is assigned to user u.
+// Role r is assigned to user u, where the authorised roles then fit the static sets.
 fn assign(t: &mut [u64], u: usize, r: usize) -> bool
     requires { ⌜ Fit (now t) (assigns u r) ⌝ }
     ensures { λ a. ⌜ Served (now (t .entry)) (now (t .exit)) a (assigns u r) ⌝ }
 {
-    t[ASSIGNED + u] = bits::with(t[ASSIGNED + u], r);
+    let more = bits::with(t[ASSIGNED + u], r);
+    if !sound::static_fit(t, more) {
+        return false;
+    }
+    t[ASSIGNED + u] = more;
     true
 }
 
@@ -206,9 +220,22 @@ fn revoke(t: &mut [u64], r: usize, x: usize, o: usize) -> bool
     false
 }
 
+// Pair n is replaced, where it holds: a static set of every user, a dynamic one of every session.
+fn separate(t: &mut [u64], n: usize, roles: u64, bound: u64) -> bool
+    requires { ⌜ Fit (now t) (separates n roles bound) ⌝ }
+    ensures { λ a. ⌜ Served (now (t .entry)) (now (t .exit)) a (separates n roles bound) ⌝ }
+{
+    if !sound::pair_holds(t, n, roles, bound) {
+        return false;
+    }
+    t[SETS + 2 * n] = roles;
+    t[SETS + (2 * n + 1)] = bound;
+    true
+}
+
 // The largest value of each argument, a row for each code from 1 on; one that is not listed must be 0, and the roles of a start
-// are any 64-bit number.
-const LIMITS: [[u64; 3]; 10] = [
+// and the roles and the bound of a set are any 64-bit numbers.
+const LIMITS: [[u64; 3]; 12] = [
     [31, 63, 7],
     [31, 63, 7],
     [31, 63, 18446744073709551615],
@@ -219,6 +246,8 @@ const LIMITS: [[u64; 3]; 10] = [
     [63, 63, 0],
     [63, 7, 63],
     [63, 7, 63],
+    [15, 18446744073709551615, 18446744073709551615],
+    [15, 18446744073709551615, 18446744073709551615],
 ];
 
 // Whether each of three arguments is at most its largest value, whatever the code.
@@ -282,6 +311,32 @@ fn serve_code(t: &mut [u64], code: u64, largest: [u64; 3], a: u64, b: u64, c: u6
     }
 }
 
+// The request of code 11 or 12 with its row of LIMITS and the pair of its set 0, on a table of the right length.
+fn serve_set(
+    t: &mut [u64],
+    code: u64,
+    largest: [u64; 3],
+    first: usize,
+    n: u64,
+    roles: u64,
+    bound: u64,
+) -> Answer
+    requires { ⌜ (length (now t) ≡ tableLength) × (11 ≤ code) × (code ≤ 12) × (largest ≡ getD limits (code - 1) []) × (first ≡ 16 * (code - 11)) ⌝ }
+    ensures answer { λ r. ⌜ numberOf r ≡ soundStep (now (t .entry)) (ask code n roles bound) .answer ⌝ }
+    ensures table { λ r. ⌜ now (t .exit) ≡ soundStep (now (t .entry)) (ask code n roles bound) .state ⌝ }
+{
+    if !within(largest, n, roles, bound) {
+        return Answer::Refused(Refusal::BadArgument);
+    }
+    if sound::is_bad_pair(roles, bound) {
+        return Answer::Refused(Refusal::BadPair);
+    }
+    match separate(t, first + n as usize, roles, bound) {
+        true => Answer::Yes,
+        false => Answer::No,
+    }
+}
+
 // A role request on a table that is known to be sound: `request` without the soundness test. (The code is looked at once, and
 // each row is read by a constant index, so that the table of rows is not built on the stack at each call.)
 pub fn serve(t: &mut [u64], code: u64, a: u64, b: u64, c: u64) -> Answer
@@ -303,6 +358,8 @@ pub fn serve(t: &mut [u64], code: u64, a: u64, b: u64, c: u64) -> Answer
         8 => serve_code(t, 8, rows[7], a, b, c),
         9 => serve_code(t, 9, rows[8], a, b, c),
         10 => serve_code(t, 10, rows[9], a, b, c),
+        11 => serve_set(t, 11, rows[10], sound::STATIC, a, b, c),
+        12 => serve_set(t, 12, rows[11], sound::DYNAMIC, a, b, c),
         _ => Answer::Refused(Refusal::BadCode),
     }
 }

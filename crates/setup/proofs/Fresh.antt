@@ -7,13 +7,14 @@ use native.Mathlib.Omega.{arith}
 use lib.ListN.{length, getD}
 use borrow.Author.Tests.{eqb-true}
 use Rattle.bits.proofs.Truth.{clash, implies-elim}
-use Rattle.bits.proofs.Below.{all-elim}
+use Rattle.bits.proofs.Below.{all-intro, all-elim}
 use Rattle.bits.proofs.Word.{has-zero}
 use Rattle.bits.proofs.Members.{each-elim}
 use Rattle.table.specs.Sound.{Sound}
-use Rattle.table.specs.Reading.{permittedAt, assignedAt, grantedAt, ownerAt, activeAt, holdsAt, word}
+use Rattle.table.specs.Reading.{permittedAt, assignedAt, grantedAt, ownerAt, activeAt, holdsAt, setsAt, word}
 use Rattle.table.specs.Table.{tableLength, encode}
 use Rattle.table.specs.Answers.{overlay, clearedFrom}
+use Rattle.table.proofs.Separation.{separated-elim, empty-separated}
 use Rattle.table.proofs.Encode.{shown}
 use Rattle.table.proofs.Answers.{length-cleared, cleared-before, cleared-after, length-overlay, overlay-at, overlay-before}
 use Rattle.setup.specs.Closure.{closure, acyclic}
@@ -59,6 +60,7 @@ module _ (t rows permissions : List ℕ) (e : length t ≡ tableLength) (er : le
         owner = λ s h. zero-at (ownerAt s) (omega arith) (omega arith);
         active = λ s h. zero-at (activeAt s) (omega arith) (omega arith);
         holds = λ s x h k. zero-at (holdsAt s x) (omega arith) (omega arith);
+        sets = λ i h. zero-at (setsAt i) (omega arith) (omega arith);
       })
 
 -- seniority is the closure's, and everything else is empty
@@ -74,4 +76,5 @@ fresh-sound direct permissions a = record {
   idle-no-openings = λ s x hs hx i. refl;
   active-authorised = λ s r hs hr m. clash m (has-zero r);
   openings-effective = λ s x o hs hx ho m. clash m (has-zero o);
+  is-separated = separated-elim _ (empty-separated _ (all-intro _ 64 (λ i h. refl)));
 }

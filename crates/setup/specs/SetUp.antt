@@ -6,7 +6,7 @@ use Rattle.table.specs.Table.{isTable, encode}
 use Rattle.roles.specs.Request.{Outcome, refuse, accept}
 use Rattle.setup.specs.Closure.{closure, acyclic}
 
--- nobody is assigned or granted anything, and all sessions are idle
+-- nobody is assigned or granted anything, all sessions are idle, and no set is in use
 unfoldable pub fresh : List ℕ → List ℕ → State
 fresh rows permissions = record {
   juniors = λ r. getD rows r 0;
@@ -16,6 +16,7 @@ fresh rows permissions = record {
   owner = λ s. 0;
   active = λ s. 0;
   holds = λ s x. 0;
+  sets = λ i. 0;
 }
 
 unfoldable pub roleSetUp : List ℕ → List ℕ → List ℕ → Outcome (List ℕ)

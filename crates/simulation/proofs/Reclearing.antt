@@ -34,7 +34,7 @@ use Rattle.image.specs.Test.{machineOf}
 use Rattle.image.specs.Claims.{Ranged, Safe}
 use Rattle.image.proofs.Claims.{read-clearance}
 use Rattle.image.proofs.Roles.{seat-elim, seat-reads, authorised-read, authorised-write}
-use Rattle.image.proofs.Shown.{safe-sound, shown-juniors, assigned-is, active-is, owner-is, seated}
+use Rattle.image.proofs.Shown.{no-sets, safe-sound, shown-juniors, assigned-is, active-is, owner-is, seated}
 use Rattle.labels.proofs.Carrying.{reclear-same, reclear-kept, reclear-changed}
 use Rattle.simulation.proofs.Deciding.{Answered, answered-yes, answered-no, answered-on, pictured}
 use Rattle.simulation.proofs.Changing.{roles-changed, roles-back, cleared-agrees, own-clearance}
@@ -125,7 +125,7 @@ module _ (m : Machine) (g : Ranged m) (f : Safe m) where
       A1 = withAssigned S u more
 
       added : Answered (encode S) (ask 7 u c 0) true (encode A1)
-      added = answered-yes _ _ _ _ _ (assign-is S sound u c hu (omega arith)) refl
+      added = answered-yes _ _ _ _ _ (assign-is S sound (no-sets m) u c hu (omega arith)) refl
 
       sound-added : Sound A1
       sound-added = next-sound S A1 sound (ask 7 u c 0) (added .table)

@@ -23,7 +23,7 @@ use Rattle.machine.proofs.Steps.{act-opening, act-closing, act-starting, act-en
 use Rattle.image.specs.Image.{seatRoles, seatOwner, shown, image}
 use Rattle.image.specs.Claims.{Ranged, Safe}
 use Rattle.image.proofs.Roles.{authorised-seat}
-use Rattle.image.proofs.Shown.{safe-sound, shown-juniors, assigned-is, effective-shown, idle-shown}
+use Rattle.image.proofs.Shown.{no-sets, safe-sound, shown-juniors, assigned-is, effective-shown, idle-shown}
 use Rattle.labels.specs.Guard.{plan, carryOut}
 use Rattle.simulation.proofs.Deciding.{single-decided, pictured, picture-decide}
 use Rattle.simulation.proofs.Changing.{seat-agrees, openings-agree, opened-agrees, closed-agrees}
@@ -66,7 +66,7 @@ module _ (m : Machine) (g : Ranged m) (f : Safe m) where
   pub start-same : (s u y : ℕ) → s < 32 → u < 64 → y < 32 → Simulated m (starting s u y)
   unfolding plan seatOwner seatRoles
   start-same s u y hs hu hy =
-      single-decided _ _ _ _ _ (start-is S sound s u (seatRoles (at u y)) hs hu (with-lt _ _))
+      single-decided _ _ _ _ _ (start-is S sound (no-sets m) s u (seatRoles (at u y)) hs hu (with-lt _ _))
       ∙ ap₂ (λ (b : Bool) (t : List ℕ). decide b 1 1 t (encode S))
       (ap₂ _and_ (idle-shown m s) (authorised-seat S (shown-juniors m) u (m .clearance u) (g .clearances u hu) (assigned-is m u) u y hy))
       (encode-cong (seat-agrees m s (at u y)))

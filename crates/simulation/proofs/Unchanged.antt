@@ -1,16 +1,15 @@
 -- A label request that is not answered yes leaves the table: it is refused, or the machine's state, whose image the table is,
 -- stays. Assumes nothing.
-use Prim.Native.Nat.{ℕ, _^_, _<_}
+use Prim.Native.Nat.{ℕ}
 use mathlib.Core.Path.{_≡_, sym, ap, subst, _∙_}
-use mathlib.Core.Bool.{true}
 use mathlib.Core.List.{List}
 use Rattle.bits.proofs.Truth.{by-truth}
 use Rattle.table.specs.Sound.{sound}
 use Rattle.table.specs.Table.{isTable}
-use Rattle.table.specs.Reading.{word, state}
+use Rattle.table.specs.Reading.{state}
 use Rattle.table.proofs.Table.{table-length}
 use Rattle.sound.specs.Answers.{isSound}
-use Rattle.sound.proofs.Answers.{found-sound}
+use Rattle.sound.proofs.Answers.{is-sound-table}
 use Rattle.roles.specs.Request.{Ask, Outcome}
 use Rattle.machine.specs.Machine.{Machine, step}
 use Rattle.machine.proofs.Steps.{Case, stays, goes, cases}
@@ -43,8 +42,8 @@ unchanged t w q n =
     (λ i. by-truth (sound (state t))
     (λ s. by-truth (isImage (state t))
     (λ p.
-    let k = image-means t w (sym (found-sound t (table-length t i) s)) .0 p in
-    let safe = sound-image (k .machine) (k .ranged) .0 (sym (ap isSound (k .is-image)) ∙ sym (found-sound t (table-length t i) s)) in
+    let k = image-means t w (is-sound-table t (table-length t i) s) .0 p in
+    let safe = sound-image (k .machine) (k .ranged) .0 (sym (ap isSound (k .is-image)) ∙ is-sound-table t (table-length t i) s) in
     subst (λ (l : List ℕ). (labelStep l q .answer ≡ 1 → ⊥) → labelStep l q .state ≡ l) (sym (k .is-image))
     (image-stays (k .machine) (record { ranged = k .ranged; safe = safe }) q) n)
     (λ p. state-of (label-step-none t q i s p)))

@@ -13,6 +13,7 @@ use Rattle.bits.proofs.Below.{all-intro, all-fails, all-cong}
 use Rattle.bits.proofs.Members.{each-intro, each-elim, each-cong, subset-intro, subset-elim, subset-pack}
 use Rattle.table.specs.State.{State}
 use Rattle.table.specs.Authority.{permission, covers, authorised, effective}
+use Rattle.table.specs.Separation.{separated}
 use Rattle.table.specs.Sound.{sound, Sound}
 use Rattle.table.specs.Answers.{coveredRoles, openable}
 use Rattle.table.specs.Reading.{state}
@@ -20,6 +21,7 @@ use Rattle.table.specs.Table.{tableLength, isTable, encode}
 use Rattle.table.proofs.Agree.{Agree, authorised-agree, effective-agree, sound-agree}
 use Rattle.table.proofs.Encode.{state-encode, encode-length}
 use Rattle.table.proofs.State.{effective-is}
+use Rattle.table.proofs.Separation.{separated-intro}
 use Rattle.table.proofs.Sound.{sound-elim}
 use Rattle.table.proofs.Table.{is-table, not-table}
 use Rattle.table.proofs.Answers.{covered-roles-are, openable-is}
@@ -36,9 +38,11 @@ module _ (t : List ℕ) where
   unfolding isSound
   no-table n = sym (false-and _ (not-table t n))
 
-  pub found-sound : length t ≡ tableLength → sound (state t) ≡ true → true ≡ isSound t
+  -- what is left to ask where the roles are found sound
+  pub found-sound : {b : Bool} → length t ≡ tableLength → b ≡ separated (state t) → (separated (state t) ≡ true → sound (state t) ≡ true) → b ≡ isSound t
   unfolding isSound
-  found-sound e p = sym (and-intro (is-table t e) p)
+  found-sound e p k =
+      p ∙ same-truth (λ d. and-intro (is-table t e) (k d)) (λ d. separated-intro (state t) (sound-elim (state t) (and-right (isTable t) _ d) .is-separated))
 
 -- what the test answers of a table
 pub sound-state : (t : List ℕ) → isSound t ≡ true → sound (state t) ≡ true
@@ -48,6 +52,10 @@ sound-state t p = and-right (isTable t) _ p
 pub sound-table : (t : List ℕ) → isSound t ≡ true → isTable t ≡ true
 unfolding isSound
 sound-table t p = and-left (isTable t) _ p
+
+pub is-sound-table : (t : List ℕ) → length t ≡ tableLength → sound (state t) ≡ true → isSound t ≡ true
+unfolding isSound
+is-sound-table t e p = and-intro (is-table t e) p
 
 pub unsound-state : (t : List ℕ) → length t ≡ tableLength → isSound t ≡ false → sound (state t) ≡ false
 unfolding isSound

@@ -1,4 +1,4 @@
--- The items of the soundness test: a sound state passes each of them, and a state that passes all is sound. Assumes nothing.
+-- The items of the soundness test: a sound state passes each of them, and a separated state that passes all is sound. Assumes nothing.
 use Prim.Native.Nat.{ℕ, _^_, _≤_, _<_}
 use mathlib.Core.Path.{_≡_, sym, ap, _∙_}
 use mathlib.Core.Bool.{true, false, not}
@@ -13,8 +13,10 @@ use Rattle.bits.proofs.Members.{not-empty, each-intro, each-elim, each-cong, su
 use Rattle.bits.proofs.Walk.{lowest-lt, lowest-in}
 use Rattle.table.specs.State.{State}
 use Rattle.table.specs.Authority.{senior, permission, idle, user, covers, authorised, mayActivate}
+use Rattle.table.specs.Separation.{separated}
 use Rattle.table.specs.Sound.{sound, Sound}
 use Rattle.table.proofs.State.{covers-elim, effective-is, may-activate-idle, may-activate-busy}
+use Rattle.table.proofs.Separation.{separated-elim}
 use Rattle.table.proofs.Sound.{sound-intro}
 use Rattle.sound.specs.Tests.{juniorFits, roleFits, grantFits, rolesFit, heldFits}
 
@@ -147,9 +149,9 @@ module _ (S : State) (w : Words S)
       let r = covers-elim S (S .active s) (q .at) (sym (has-pack _ 64 (q .at) (q .below)) ∙ q .holds) in
       not-empty (S .active s) (r .at) (r .member) (no-roles s hs i)))
 
-  pub items-sound : sound S ≡ true
+  pub items-sound : separated S ≡ true → sound S ≡ true
   unfolding rolesFit
-  items-sound =
+  items-sound d =
       sound-intro S (record {
         is-reflexive = own-junior;
         is-transitive = through;
@@ -163,4 +165,5 @@ module _ (S : State) (w : Words S)
             let k = reach s x o hs hx ho m in
             let q = overlap-elim (S .granted x o) _ k in
             effective-is S s x o ∙ and-intro (permits x o (q .at) hx ho (q .member)) k;
+        is-separated = separated-elim S d;
       })

@@ -1,19 +1,28 @@
 -- After one change of a sound state only a part of soundness is to be tested again. Assumes nothing.
-use Prim.Native.Nat.{ℕ, suc, _<_}
-use mathlib.Core.Path.{_≡_, sym, ap, _∙_}
-use borrow.Author.Tests.{eq-eqb, eqb-true}
+use Prim.Native.Nat.{ℕ, suc, _+_, _*_, _-_, _≤_, _<_}
+use mathlib.Core.Path.{_≡_, sym, ap, subst, _∙_}
+use mathlib.Core.Bool.{Bool, true}
+use native.Mathlib.Nat.{zero-add}
+use native.Mathlib.Omega.{arith}
+use lib.Dec.{ltb}
+use borrow.Author.Tests.{eq-eqb, eqb-true, ltb-true, ltb-false}
+use Rattle.bits.specs.Words.{has}
 use Rattle.bits.specs.Sets.{_without_}
-use Rattle.bits.proofs.Truth.{same-truth, implies-intro, implies-elim}
+use Rattle.bits.proofs.Truth.{by-truth, same-truth, implies-intro, implies-elim, if-true, if-false}
 use Rattle.bits.proofs.Below.{all-intro, all-elim}
 use Rattle.bits.proofs.Word.{without-old, without-none}
 use Rattle.bits.proofs.Members.{each-intro, each-elim}
 use Rattle.table.specs.State.{State}
-use Rattle.table.specs.Changes.{withAssigned, withGranted, withActive}
+use Rattle.table.specs.Authority.{covers, authorised}
+use Rattle.table.specs.Changes.{withAssigned, withGranted, withActive, withSet}
+use Rattle.table.specs.Separation.{mask, bound, staticHolds, dynamicHolds, setsEmpty, separated, Fewer, GoodPair, Separated}
 use Rattle.table.specs.Sound.{sound, Sound}
 use Rattle.table.proofs.State.{may-activate-user}
 use Rattle.table.proofs.Sound.{sound-intro, sound-elim}
-use Rattle.table.proofs.Keeps.{active-keeps, assigned-keeps, granted-keeps}
-use Rattle.sound.specs.Answers.{openingsFit, sessionsFit, pairFits}
+use Rattle.table.proofs.Agree.{upd-same}
+use Rattle.table.proofs.Separation.{no-roles-fewer, fewer-elim, fewer-intro, separated-elim, separated-intro}
+use Rattle.table.proofs.Keeps.{set-mask, set-bound, active-separated, active-less, assigned-less, assigned-separated, set-separated, active-keeps, assigned-keeps, granted-keeps}
+use Rattle.sound.specs.Answers.{openingsFit, sessionsFit, pairFits, setsFit, pairHolds}
 
 module _ (S : State) (f : Sound S) where
   -- a role is dropped: what the session holds must stay effective
@@ -25,7 +34,8 @@ module _ (S : State) (f : Sound S) where
       (λ e. sound-intro S′ (active-keeps S f s (S .active s without r)
       (λ q hq m. f .active-authorised s q hs hq (without-old (S .active s) r q hq m))
       (λ i. ap (λ (w : ℕ). w without r) (f .idle-no-roles s hs i) ∙ without-none r)
-      (λ x o hx ho m. each-elim _ _ (all-elim _ 8 e x hx) o ho m)))
+      (λ x o hx ho m. each-elim _ _ (all-elim _ 8 e x hx) o ho m)
+      (active-less S (f .is-separated) s (S .active s without r) (λ q hq m. without-old (S .active s) r q hq m))))
     where
       S′ : State
       S′ = withActive S s (S .active s without r)
@@ -39,7 +49,8 @@ module _ (S : State) (f : Sound S) where
       sym (may-activate-user S′ s u q (eqb-true (S .owner s) (suc u) o))
       ∙ sound-elim S′ e .active-authorised s q hs hq m))))
       (λ e. sound-intro S′ (assigned-keeps S f u (S .assigned u without r)
-      (λ s q hs hq o m. each-elim _ _ (implies-elim _ _ (all-elim _ 32 e s hs) (eq-eqb (S .owner s) (suc u) o)) q hq m)))
+      (λ s q hs hq o m. each-elim _ _ (implies-elim _ _ (all-elim _ 32 e s hs) (eq-eqb (S .owner s) (suc u) o)) q hq m)
+      (assigned-less S (f .is-separated) u (S .assigned u without r) (λ q hq m. without-old (S .assigned u) r q hq m))))
     where
       S′ : State
       S′ = withAssigned S u (S .assigned u without r)
@@ -56,3 +67,56 @@ module _ (S : State) (f : Sound S) where
     where
       S′ : State
       S′ = withGranted S x o (S .granted x o without r)
+
+-- ---- the sets, after one change of a separated state
+
+module _ (S : State) (f : Separated S) where
+  -- roles become active in a session: they must fit the dynamic sets
+  pub active-fits : (s w : ℕ) → s < 32 → separated (withActive S s w) ≡ setsFit S 16 (has w)
+  active-fits s w hs =
+      same-truth
+      (λ e. all-intro _ 16 (λ n h. fewer-intro _ _ (has w)
+      (subst (λ (v : ℕ). Fewer (mask S (16 + n)) (bound S (16 + n)) (has v)) (upd-same (S .active) s w) (separated-elim _ e .dynamic-holds n s h hs))))
+      (λ e. separated-intro _ (active-separated S f s w (λ n h. fewer-elim _ _ (has w) (all-elim _ 16 e n h))))
+
+  -- roles are assigned to a user: they and their juniors must fit the static sets
+  pub assigned-fits : (u w : ℕ) → u < 64 → separated (withAssigned S u w) ≡ setsFit S 0 (covers S w)
+  unfolding covers authorised
+  assigned-fits u w hu =
+      same-truth
+      (λ e. all-intro _ 16 (λ n h. fewer-intro _ _ (covers S w) (rw (zero-add n)
+      (subst (λ (v : ℕ). Fewer (mask S n) (bound S n) (covers S v)) (upd-same (S .assigned) u w) (separated-elim _ e .static-holds n u h hu)))))
+      (λ e. separated-intro _ (assigned-separated S f u w (λ n h. rw (zero-add n) at (fewer-elim (mask S (0 + n)) (bound S (0 + n)) (covers S w) (all-elim _ 16 e n h)))))
+
+  pair-was : (n m b : ℕ) (P : ℕ → ℕ → Type 0) → P (mask (withSet S n m b) n) (bound (withSet S n m b) n) → P m b
+  pair-was n m b P p = subst (P m) (set-bound S n m b) (subst (λ (c : ℕ). P c (bound (withSet S n m b) n)) (set-mask S n m b) p)
+
+  -- a good pair replaces pair n: it must hold
+  static-fits : (n m b : ℕ) → n < 16 → GoodPair m b → separated (withSet S n m b) ≡ staticHolds S m b
+  unfolding covers authorised
+  static-fits n m b h g =
+      same-truth
+      (λ e. all-intro _ 64 (λ u hu. fewer-intro m b _
+      (pair-was n m b (λ c d. Fewer c d (authorised S u)) (separated-elim _ e .static-holds n u h hu))))
+      (λ e. separated-intro _ (set-separated S f n m b g (λ u l hu. fewer-elim m b _ (all-elim _ 64 e u hu)) (λ s l hs. absurd (omega arith))))
+
+  dynamic-fits : (n m b : ℕ) → n < 16 → GoodPair m b → separated (withSet S (16 + n) m b) ≡ dynamicHolds S m b
+  dynamic-fits n m b h g =
+      same-truth
+      (λ e. all-intro _ 32 (λ s hs. fewer-intro m b _
+      (pair-was (16 + n) m b (λ c d. Fewer c d (has (S .active s))) (separated-elim _ e .dynamic-holds n s h hs))))
+      (λ e. separated-intro _ (set-separated S f (16 + n) m b g (λ u l hu. absurd (omega arith)) (λ s l hs. fewer-elim m b _ (all-elim _ 32 e s hs))))
+
+  pub pair-fits : (n m b : ℕ) → n < 32 → GoodPair m b → separated (withSet S n m b) ≡ pairHolds S n m b
+  unfolding pairHolds
+  pair-fits n m b h g =
+      by-truth (ltb n 16)
+      (λ l. static-fits n m b (ltb-true n 16 l) g ∙ sym (if-true _ _ l))
+      (λ l.
+      let k = ltb-false n 16 l in
+      let e : n ≡ 16 + (n - 16) = omega arith in
+      ap (λ (i : ℕ). separated (withSet S i m b)) e ∙ dynamic-fits (n - 16) m b (omega arith) g ∙ sym (if-false _ _ l))
+
+-- where no set is in use any roles fit
+pub empty-fits : (S : State) (first : ℕ) (f : ℕ → Bool) → first ≤ 16 → setsEmpty S ≡ true → setsFit S first f ≡ true
+empty-fits S first f h e = all-intro _ 16 (λ n l. no-roles-fewer _ _ f (eqb-true _ 0 (all-elim _ 64 e (2 * (first + n)) (omega arith))))

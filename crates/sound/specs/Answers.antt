@@ -1,9 +1,10 @@
 -- What the public functions answer, for a list of any length and any number: no, where the list is no table or there is no
 -- such session, user, mode or object. `isSound` is 01's soundness; the others are the part of it that one change can break.
-use Rattle.bits.specs.Words.{ℕ, suc, Bool, List, eqb, ltb, _and_, _implies_, has, all}
+use Rattle.bits.specs.Words.{ℕ, suc, _+_, Bool, List, eqb, ltb, _and_, _implies_, if_then_else_, has, all}
 use Rattle.bits.specs.Sets.{each}
 use Rattle.table.specs.State.{State}
-use Rattle.table.specs.Authority.{authorised, effective}
+use Rattle.table.specs.Authority.{covers, authorised, effective}
+use Rattle.table.specs.Separation.{mask, bound, fewer, staticHolds, dynamicHolds, setsEmpty}
 use Rattle.table.specs.Sound.{sound}
 use Rattle.table.specs.Table.{isTable}
 use Rattle.table.specs.Reading.{state}
@@ -24,6 +25,14 @@ sessionsFit S u = all 32 (λ s. eqb (S .owner s) (suc u) implies each (S .active
 unfoldable pub pairFits : State → ℕ → ℕ → Bool
 pairFits S x o = all 32 (λ s. has (S .holds s x) o implies effective S s x o)
 
+-- the roles include fewer of each of the 16 sets from pair first on than its bound
+abbrev pub setsFit : State → ℕ → (ℕ → Bool) → Bool
+setsFit S first roles = all 16 (λ n. fewer (mask S (first + n)) (bound S (first + n)) roles)
+
+-- the mask and the bound as pair n hold: as a static set below 16, else as a dynamic one
+unfoldable pub pairHolds : State → ℕ → ℕ → ℕ → Bool
+pairHolds S n m b = if ltb n 16 then staticHolds S m b else dynamicHolds S m b
+
 unfoldable pub openingsOf : List ℕ → ℕ → Bool
 openingsOf t s = isTable t and ltb s 32 and openingsFit (state t) s
 
@@ -32,3 +41,16 @@ sessionsOf t u = isTable t and ltb u 64 and sessionsFit (state t) u
 
 unfoldable pub holdersOf : List ℕ → ℕ → ℕ → Bool
 holdersOf t x o = isTable t and ltb x 8 and ltb o 64 and pairFits (state t) x o
+
+unfoldable pub setsEmptyOf : List ℕ → Bool
+setsEmptyOf t = isTable t and setsEmpty (state t)
+
+-- the roles, assigned to a user, and all their juniors fit the static sets; the roles, active in a session, fit the dynamic ones
+unfoldable pub staticFitOf : List ℕ → ℕ → Bool
+staticFitOf t roles = isTable t and setsFit (state t) 0 (covers (state t) roles)
+
+unfoldable pub dynamicFitOf : List ℕ → ℕ → Bool
+dynamicFitOf t roles = isTable t and setsFit (state t) 16 (has roles)
+
+unfoldable pub pairHoldsOf : List ℕ → ℕ → ℕ → ℕ → Bool
+pairHoldsOf t n m b = isTable t and ltb n 32 and pairHolds (state t) n m b

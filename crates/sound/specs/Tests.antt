@@ -1,9 +1,10 @@
 -- What the private functions that make up the soundness test answer, item by item. No promise rests on this page: the public
 -- test is held to `sound`, and that these items come to it is proved.
-use Rattle.bits.specs.Words.{ℕ, Bool, not, eqb, leb, _and_, _or_, all, subset}
+use Rattle.bits.specs.Words.{ℕ, Bool, not, eqb, leb, _and_, _or_, has, all, subset}
 use Rattle.bits.specs.Sets.{each, overlap, _without_}
 use Rattle.table.specs.State.{State}
-use Rattle.table.specs.Authority.{senior, permission, mayActivate}
+use Rattle.table.specs.Authority.{senior, permission, authorised, mayActivate}
+use Rattle.sound.specs.Answers.{setsFit}
 
 -- q, a junior of r and another role, is not senior to r, and its juniors are juniors of r
 unfoldable pub juniorFits : State → ℕ → ℕ → Bool
@@ -17,10 +18,6 @@ roleFits S r = senior S r r and each (S .juniors r without r) (λ q. juniorFits 
 unfoldable pub grantFits : State → ℕ → ℕ → Bool
 grantFits S x o = eqb (S .granted x o) 0 or permission S x o
 
--- no pair of mode x is granted to a role
-unfoldable pub noneGranted : State → ℕ → Bool
-noneGranted S x = all 64 (λ o. eqb (S .granted x o) 0)
-
 -- every pair of mode x fits
 unfoldable pub grantsFit : State → ℕ → Bool
 grantsFit S x = all 64 (λ o. grantFits S x o)
@@ -32,3 +29,10 @@ rolesFit S s = leb (S .owner s) 64 and each (S .active s) (λ r. mayActivate S s
 -- each object that s holds in mode x is granted in that mode to one of the roles
 unfoldable pub heldFits : State → ℕ → ℕ → ℕ → Bool
 heldFits S roles s x = each (S .holds s x) (λ o. overlap (S .granted x o) roles)
+
+-- the authorised roles of every user fit the static sets, and the active roles of every session the dynamic ones
+abbrev pub usersSeparate : State → Bool
+usersSeparate S = all 64 (λ u. setsFit S 0 (authorised S u))
+
+abbrev pub sessionsSeparate : State → Bool
+sessionsSeparate S = all 32 (λ s. setsFit S 16 (has (S .active s)))

@@ -1,6 +1,6 @@
 -- States that agree on the users, roles, objects, sessions and modes that there are: what is said of one is said of the
 -- other. Assumes nothing.
-use Prim.Native.Nat.{ℕ, _-_, _≤_, _<_}
+use Prim.Native.Nat.{ℕ, _+_, _-_, _*_, _≤_, _<_}
 use mathlib.Core.Path.{_≡_, refl, sym, ap, ap₂, subst, _∙_}
 use mathlib.Core.Bool.{Bool}
 use native.Mathlib.Omega.{arith}
@@ -12,9 +12,11 @@ use Rattle.bits.proofs.Truth.{by-truth, same-truth}
 use Rattle.bits.proofs.Members.{some-cong}
 use Rattle.table.specs.State.{State}
 use Rattle.table.specs.Authority.{senior, permission, idle, user, covers, authorised, mayActivate, effective}
-use Rattle.table.specs.Changes.{setAssigned, setGranted, setOwner, setActive, setHolds, withAssigned, withGranted, withOwner, withActive, withHolds}
+use Rattle.table.specs.Changes.{setAssigned, setGranted, setOwner, setActive, setHolds, setSets, withAssigned, withGranted, withOwner, withActive, withHolds, withSet}
+use Rattle.table.specs.Separation.{separated, Separated}
 use Rattle.table.specs.Sound.{sound, Sound}
 use Rattle.table.proofs.State.{may-activate-idle, may-activate-busy}
+use Rattle.table.proofs.Separation.{separated-elim, separated-intro, separated-less}
 use Rattle.table.proofs.Sound.{sound-elim, sound-intro}
 use Rattle.table.proofs.Upd.{row-agree, grid-agree}
 use Rattle.table.proofs.Encode.{encode-cong, agreed}
@@ -41,6 +43,7 @@ module _ {S S′ : State} (a : Agree S S′) where
     owner = a .owner;
     active = a .active;
     holds = a .holds;
+    sets = a .sets;
   }
 
   pub agree-set-granted : {f g : ℕ → ℕ → ℕ} → ((x o : ℕ) → x < 8 → o < 64 → f x o ≡ g x o) → Agree (setGranted S f) (setGranted S′ g)
@@ -52,6 +55,7 @@ module _ {S S′ : State} (a : Agree S S′) where
     owner = a .owner;
     active = a .active;
     holds = a .holds;
+    sets = a .sets;
   }
 
   pub agree-set-owner : {f g : ℕ → ℕ} → ((s : ℕ) → s < 32 → f s ≡ g s) → Agree (setOwner S f) (setOwner S′ g)
@@ -63,6 +67,7 @@ module _ {S S′ : State} (a : Agree S S′) where
     owner = e;
     active = a .active;
     holds = a .holds;
+    sets = a .sets;
   }
 
   pub agree-set-active : {f g : ℕ → ℕ} → ((s : ℕ) → s < 32 → f s ≡ g s) → Agree (setActive S f) (setActive S′ g)
@@ -74,6 +79,7 @@ module _ {S S′ : State} (a : Agree S S′) where
     owner = a .owner;
     active = e;
     holds = a .holds;
+    sets = a .sets;
   }
 
   pub agree-set-holds : {f g : ℕ → ℕ → ℕ} → ((s x : ℕ) → s < 32 → x < 8 → f s x ≡ g s x) → Agree (setHolds S f) (setHolds S′ g)
@@ -85,6 +91,19 @@ module _ {S S′ : State} (a : Agree S S′) where
     owner = a .owner;
     active = a .active;
     holds = e;
+    sets = a .sets;
+  }
+
+  pub agree-set-sets : {f g : ℕ → ℕ} → ((i : ℕ) → i < 64 → f i ≡ g i) → Agree (setSets S f) (setSets S′ g)
+  agree-set-sets e = record {
+    juniors = a .juniors;
+    permitted = a .permitted;
+    assigned = a .assigned;
+    granted = a .granted;
+    owner = a .owner;
+    active = a .active;
+    holds = a .holds;
+    sets = e;
   }
 
   -- one word of it
@@ -102,6 +121,11 @@ module _ {S S′ : State} (a : Agree S S′) where
 
   pub agree-with-holds : (s : ℕ) {f g : ℕ → ℕ} → ((x : ℕ) → x < 8 → f x ≡ g x) → Agree (withHolds S s f) (withHolds S′ s g)
   agree-with-holds s {f} {g} e = agree-set-holds (λ p x h l. row-agree (S .holds) (S′ .holds) s p x f g (e x l) (a .holds p x h l))
+
+  pub agree-with-set : (n : ℕ) {m m′ b b′ : ℕ} → m ≡ m′ → b ≡ b′ → Agree (withSet S n m b) (withSet S′ n m′ b′)
+  agree-with-set n {m} {m′} e d =
+      agree-set-sets (λ i h. upd-agree (upd (S .sets) (2 * n) m) (upd (S′ .sets) (2 * n) m′) (2 * n + 1) i d
+      (upd-agree (S .sets) (S′ .sets) (2 * n) i e (a .sets i h)))
 
 module _ (S : State) where
   -- openings replaced twice
@@ -129,6 +153,11 @@ module _ (S : State) where
   agree-own-holds s {f} e =
       agree-set-holds (agree-refl S) (λ p x h k.
       by-upd (S .holds) s f (λ (g : ℕ → ℕ). g x ≡ S .holds p x) p (λ q. e x k ∙ sym (ap (λ (n : ℕ). S .holds n x) q)) (λ n. refl))
+
+  pub agree-own-set : (n : ℕ) {m b : ℕ} → m ≡ S .sets (2 * n) → b ≡ S .sets (2 * n + 1) → Agree (withSet S n m b) S
+  agree-own-set n {m} {b} e d =
+      agree-set-sets (agree-refl S) (λ i h.
+      upd-own (upd (S .sets) (2 * n) m) (2 * n + 1) b (d ∙ sym (upd-own (S .sets) (2 * n) m e (2 * n + 1))) i ∙ upd-own (S .sets) (2 * n) m e i)
 
 module _ {S S′ : State} (a : Agree S S′) where
   pub senior-agree : (r q : ℕ) → r < 64 → senior S r q ≡ senior S′ r q
@@ -167,6 +196,10 @@ module _ {S S′ : State} (a : Agree S S′) where
       ap (λ (w : ℕ). some w (λ q. senior S r q)) (a .granted x o hx ho) ∙ some-cong (S′ .granted x o) (λ q k. senior-agree r q h))
       ∙ ap (λ (w : ℕ). some w (λ r. some (S′ .granted x o) (λ q. senior S′ r q))) (a .active s hs))
 
+  apart : Separated S → Separated S′
+  apart f =
+      separated-less S S′ f (a .sets) (λ u q h e. authorised-agree u q h ∙ e) (λ s r hs hr m. ap (λ (w : ℕ). has w r) (a .active s hs) ∙ m)
+
   -- what agrees with a sound state is sound
   pub agree-sound : Sound S → Sound S′
   agree-sound f = record {
@@ -183,7 +216,14 @@ module _ {S S′ : State} (a : Agree S S′) where
         sym (may-activate-agree s r hs (f .owners-known s hs)) ∙ f .active-authorised s r hs hr (ap (λ (w : ℕ). has w r) (a .active s hs) ∙ m);
     openings-effective = λ s x o hs hx ho m.
         sym (effective-agree s x o hs hx ho) ∙ f .openings-effective s x o hs hx ho (ap (λ (w : ℕ). has w o) (a .holds s x hs hx) ∙ m);
+    is-separated = apart (f .is-separated);
   }
+
+pub separated-agree : {S S′ : State} → Agree S S′ → separated S ≡ separated S′
+separated-agree {S} {S′} a =
+    same-truth
+    (λ e. separated-intro S′ (apart a (separated-elim S e)))
+    (λ e. separated-intro S (apart (agree-sym a) (separated-elim S′ e)))
 
 pub sound-agree : {S S′ : State} → Agree S S′ → sound S ≡ sound S′
 sound-agree {S} {S′} a =

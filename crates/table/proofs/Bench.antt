@@ -7,7 +7,8 @@ use lib.Dec.{eqb}
 use Rattle.bits.specs.Words.{_and_, _or_, _implies_, if_then_else_, has, all}
 use Rattle.bits.specs.Sets.{each, any, some}
 use Rattle.table.specs.Authority.{covers, authorised, mayActivate, effective}
-use Rattle.table.specs.Sound.{reflexive, transitive, antisymmetric, grantsPermitted, ownersKnown, idleEmpty, activeAuthorised, openingsEffective, sound}
+use Rattle.table.specs.Sound.{reflexive, transitive, antisymmetric, grantsPermitted, ownersKnown, idleEmpty, activeAuthorised, openingsEffective, rolesSound, sound}
+use Rattle.table.specs.Separation.{emptyPair, badPair, fewer, separated}
 use Rattle.table.specs.Reading.{state}
 use Rattle.table.specs.Table.{tabulate, encode}
 
@@ -20,8 +21,9 @@ bench = encode (record {
   owner = λ s. 0;
   active = λ s. 0;
   holds = λ s x. 0;
+  sets = λ i. 0;
 })
 
 bench-sound : sound (state bench) ≡ true
-unfolding bench encode tabulate sound reflexive transitive antisymmetric grantsPermitted ownersKnown idleEmpty activeAuthorised openingsEffective covers authorised mayActivate effective has all any each some _and_ _or_ _implies_ if_then_else_
+unfolding bench encode tabulate sound reflexive transitive antisymmetric grantsPermitted ownersKnown idleEmpty activeAuthorised openingsEffective rolesSound separated fewer badPair emptyPair covers authorised mayActivate effective has all any each some _and_ _or_ _implies_ if_then_else_
 bench-sound = refl

@@ -12,8 +12,8 @@ use borrow.Author.Tests.{eqb-true, eqb-false, ltb-true, ltb-false}
 use Rattle.bits.proofs.Truth.{by-truth}
 use Rattle.table.specs.State.{State}
 use Rattle.bits.specs.Words.{upd}
-use Rattle.table.specs.Changes.{withAssigned, withGranted, withOwner, withActive, withHolds}
-use Rattle.table.specs.Reading.{juniorsAt, permittedAt, assignedAt, grantedAt, ownerAt, activeAt, holdsAt, word, state}
+use Rattle.table.specs.Changes.{withAssigned, withGranted, withOwner, withActive, withHolds, setSets}
+use Rattle.table.specs.Reading.{juniorsAt, permittedAt, assignedAt, grantedAt, ownerAt, activeAt, holdsAt, setsAt, word, state}
 use Rattle.table.specs.Table.{tableLength, tabulate, encode}
 use Rattle.table.proofs.Tabulate.{length-tabulate, getD-tabulate, tabulate-cong}
 use Rattle.table.proofs.Upd.{upd-same, upd-other, by-upd}
@@ -28,6 +28,7 @@ pub record Agree (S S′ : State) : Type 0 where
   pub owner : (s : ℕ) → s < 32 → S .owner s ≡ S′ .owner s
   pub active : (s : ℕ) → s < 32 → S .active s ≡ S′ .active s
   pub holds : (s x : ℕ) → s < 32 → x < 8 → S .holds s x ≡ S′ .holds s x
+  pub sets : (i : ℕ) → i < 64 → S .sets i ≡ S′ .sets i
 
 -- ---- reading the table of a state
 
@@ -40,8 +41,11 @@ later n f ys i j e =
     ∙ getD-append-add (tabulate n f) ys i 0
 
 module _ (S : State) where
+  abbrev from-sets : List ℕ
+  from-sets = tabulate 64 (S .sets)
+
   abbrev from-holds : List ℕ
-  from-holds = tabulate 256 (λ i. S .holds (i / 8) (i % 8))
+  from-holds = tabulate 256 (λ i. S .holds (i / 8) (i % 8)) ++ from-sets
 
   abbrev from-active : List ℕ
   from-active = tabulate 32 (S .active) ++ from-holds
@@ -90,8 +94,9 @@ module _ (S : State) where
     active = λ s h. at-owner (32 + s) (activeAt s) (omega arith) ∙ later 32 _ from-active s (32 + s) refl ∙ first 32 _ from-holds s h;
     holds = λ s x hs hx.
         at-holds (8 * s + x) (holdsAt s x) (omega arith)
-        ∙ getD-tabulate 256 _ 0 (8 * s + x) (omega arith)
+        ∙ first 256 _ from-sets (8 * s + x) (omega arith)
         ∙ ap₂ (λ (y p : ℕ). S .holds y p) (div-mode s x hx) (mod-mode s x hx);
+    sets = λ i h. at-holds (256 + i) (setsAt i) (omega arith) ∙ later 256 _ from-sets i (256 + i) refl ∙ getD-tabulate 64 _ 0 i h;
   }
     where
       div-row : (x o : ℕ) → o < 64 → (64 * x + o) / 64 ≡ x
@@ -116,15 +121,16 @@ module _ (S : State) where
 by-place : (P : ℕ → Type 0)
     → ((r : ℕ) → r < 64 → P (juniorsAt r)) → ((x : ℕ) → x < 8 → P (permittedAt x)) → ((u : ℕ) → u < 64 → P (assignedAt u))
     → ((x o : ℕ) → x < 8 → o < 64 → P (grantedAt x o)) → ((s : ℕ) → s < 32 → P (ownerAt s)) → ((s : ℕ) → s < 32 → P (activeAt s))
-    → ((s x : ℕ) → s < 32 → x < 8 → P (holdsAt s x)) → (i : ℕ) → i < tableLength → P i
-by-place P j p a g o c h i l =
+    → ((s x : ℕ) → s < 32 → x < 8 → P (holdsAt s x)) → ((i : ℕ) → i < 64 → P (setsAt i)) → (i : ℕ) → i < tableLength → P i
+by-place P j p a g o c h n i l =
     on 64 (λ b. j i b) (λ b1.
     on 72 (λ b. subst P (omega arith) (p (i - 64) (omega arith))) (λ b2.
     on 136 (λ b. subst P (omega arith) (a (i - 72) (omega arith))) (λ b3.
     on 648 (λ b. subst P (granted-place b3) (g ((i - 136) / 64) ((i - 136) % 64) (omega arith) (omega arith))) (λ b4.
     on 680 (λ b. subst P (omega arith) (o (i - 648) (omega arith))) (λ b5.
     on 712 (λ b. subst P (omega arith) (c (i - 680) (omega arith))) (λ b6.
-    subst P (holds-place b6) (h ((i - 712) / 8) ((i - 712) % 8) (omega arith) (omega arith))))))))
+    on 968 (λ b. subst P (holds-place b6) (h ((i - 712) / 8) ((i - 712) % 8) (omega arith) (omega arith))) (λ b7.
+    subst P (omega arith) (n (i - 968) (omega arith)))))))))
   where
     on : (n : ℕ) → (i < n → P i) → (n ≤ i → P i) → P i
     on n f g = by-truth (ltb i n) (λ e. f (ltb-true i n e)) (λ e. g (ltb-false i n e))
@@ -144,7 +150,8 @@ encode-cong {S} {S′} a =
     (ap₂ _++_ (tabulate-cong 512 (λ i h. a .granted (i / 64) (i % 64) (omega arith) (omega arith)))
     (ap₂ _++_ (tabulate-cong 32 (a .owner))
     (ap₂ _++_ (tabulate-cong 32 (a .active))
-    (tabulate-cong 256 (λ i h. a .holds (i / 8) (i % 8) (omega arith) (omega arith))))))))
+    (ap₂ _++_ (tabulate-cong 256 (λ i h. a .holds (i / 8) (i % 8) (omega arith) (omega arith)))
+    (tabulate-cong 64 (a .sets))))))))
 
 -- states with the same table agree
 pub agreed : {S S′ : State} → encode S ≡ encode S′ → Agree S S′
@@ -156,6 +163,7 @@ agreed {S} {S′} e = record {
   owner = λ s h. same (ownerAt s) (state-encode S .owner s h) (state-encode S′ .owner s h);
   active = λ s h. same (activeAt s) (state-encode S .active s h) (state-encode S′ .active s h);
   holds = λ s x h k. same (holdsAt s x) (state-encode S .holds s x h k) (state-encode S′ .holds s x h k);
+  sets = λ i h. same (setsAt i) (state-encode S .sets i h) (state-encode S′ .sets i h);
 }
   where
     same : (i : ℕ) {v w : ℕ} → word (encode S) i ≡ v → word (encode S′) i ≡ w → v ≡ w
@@ -164,7 +172,7 @@ agreed {S} {S′} e = record {
 pub same-table : (t t′ : List ℕ) → length t ≡ tableLength → length t′ ≡ tableLength → Agree (state t) (state t′) → t ≡ t′
 same-table t t′ e e′ a =
     ext-getD 0 t t′ (e ∙ sym e′)
-    (λ i h. by-place (λ k. word t k ≡ word t′ k) (a .juniors) (a .permitted) (a .assigned) (a .granted) (a .owner) (a .active) (a .holds) i (omega arith))
+    (λ i h. by-place (λ k. word t k ≡ word t′ k) (a .juniors) (a .permitted) (a .assigned) (a .granted) (a .owner) (a .active) (a .holds) (a .sets) i (omega arith))
 
 -- the state that a table shows
 pub encode-state : (t : List ℕ) → length t ≡ tableLength → t ≡ encode (state t)
@@ -260,4 +268,11 @@ module _ {t : List ℕ} (S : State) (z : t ≡ encode S) where
   write-holds s x v hs hx =
       on (holdsAt s x) v
       ∙ past-granted S (64 + (8 * s + x)) (holdsAt s x) v (omega arith) (past 32 _ _ (32 + (8 * s + x)) (64 + (8 * s + x)) v (omega arith) (past 32 _ _ (8 * s + x) (32 + (8 * s + x)) v refl
-      (set-tabulate 256 _ (8 * s + x) v (omega arith) ∙ tabulate-cong 256 (λ i h. by-rows (λ j. j / 8) (λ j. j % 8) (S .holds) (8 * s + x) s x v i (omega arith) (omega arith) (λ p q. omega arith)))))
+      (set-first 256 _ _ (8 * s + x) v (omega arith) ∙ ap (λ (l : List ℕ). l ++ from-sets S) (tabulate-cong 256 (λ i h. by-rows (λ j. j / 8) (λ j. j % 8) (S .holds) (8 * s + x) s x v i (omega arith) (omega arith) (λ p q. omega arith))))))
+
+  pub write-sets : (i v : ℕ) → i < 64 → set t (setsAt i) v ≡ encode (setSets S (upd (S .sets) i v))
+  unfolding encode
+  write-sets i v h =
+      on (setsAt i) v
+      ∙ past-granted S (320 + i) (setsAt i) v (omega arith) (past 32 _ _ (288 + i) (320 + i) v (omega arith) (past 32 _ _ (256 + i) (288 + i) v (omega arith) (past 256 _ _ i (256 + i) v refl
+      (set-tabulate 64 _ i v h))))

@@ -1,21 +1,23 @@
 -- What keeps a state sound: for each word that a request replaces, what the new word must meet. Assumes nothing.
-use Prim.Native.Nat.{ℕ, suc, _-_, _≤_, _<_}
-use mathlib.Core.Path.{_≡_, refl, sym, ap, ap₂, _∙_}
+use Prim.Native.Nat.{ℕ, suc, _+_, _*_, _-_, _≤_, _<_}
+use mathlib.Core.Path.{_≡_, refl, sym, ap, ap₂, subst, _∙_}
 use mathlib.Core.Bool.{true, not}
 use native.Mathlib.Omega.{arith}
 use lib.Dec.{eqb}
 use borrow.Author.Tests.{eqb-true, eqb-false}
-use Rattle.bits.specs.Words.{_and_, has}
+use Rattle.bits.specs.Words.{_and_, upd, has}
 use Rattle.bits.specs.Sets.{some}
 use Rattle.bits.proofs.Truth.{clash, by-truth}
 use Rattle.bits.proofs.Word.{has-zero}
 use Rattle.bits.proofs.Members.{not-empty}
 use Rattle.table.specs.State.{State}
 use Rattle.table.specs.Authority.{permission, idle, user, covers, authorised, mayActivate, effective}
-use Rattle.table.specs.Changes.{withAssigned, withGranted, withOwner, withActive, withHolds}
+use Rattle.table.specs.Changes.{withAssigned, withGranted, withOwner, withActive, withHolds, withSet}
+use Rattle.table.specs.Separation.{mask, bound, Fewer, GoodPair, Separated}
 use Rattle.table.specs.Sound.{Sound}
 use Rattle.table.proofs.State.{authorised-intro, authorised-elim, effective-intro, effective-elim, may-activate-busy}
-use Rattle.table.proofs.Agree.{upd-other, by-upd, grid-same, by-grid}
+use Rattle.table.proofs.Agree.{upd-same, upd-other, by-upd, grid-same, by-grid}
+use Rattle.table.proofs.Separation.{separated-less}
 
 -- ---- what authorised roles and effective permissions hang on
 
@@ -66,6 +68,91 @@ module _ (S S′ : State) (j : S .juniors ≡ S′ .juniors) where
 pub no-roles-none-effective : (S : State) (s x o : ℕ) → S .active s ≡ 0 → effective S s x o ≡ true → ⊥
 no-roles-none-effective S s x o z e = let f = effective-elim S s x o e in not-empty (S .active s) (f .role) (f .active-in) z
 
+-- ---- what keeps the sets
+
+-- the pairs of a state with pair n replaced
+module _ (S : State) (n m b : ℕ) where
+  abbrev S′ : State
+  S′ = withSet S n m b
+
+  pub set-mask : mask S′ n ≡ m
+  set-mask = upd-other (upd (S .sets) (2 * n) m) (2 * n + 1) b (2 * n) (λ z. omega arith) ∙ upd-same (S .sets) (2 * n) m
+
+  pub set-bound : bound S′ n ≡ b
+  set-bound = upd-same (upd (S .sets) (2 * n) m) (2 * n + 1) b
+
+  by-pair : (i : ℕ) (P : ℕ → ℕ → Type 0) → (i ≡ n → P m b) → ((i ≡ n → ⊥) → P (mask S i) (bound S i)) → P (mask S′ i) (bound S′ i)
+  by-pair i P p q =
+      by-truth (eqb i n)
+      (λ e. let d = eqb-true i n e in to (ap (mask S′) d ∙ set-mask) (ap (bound S′) d ∙ set-bound) (p d))
+      (λ e.
+      let d = eqb-false i n e in
+      to (other (2 * i) (λ z. omega arith) (λ z. d (omega arith))) (other (2 * i + 1) (λ z. d (omega arith)) (λ z. omega arith)) (q d))
+    where
+      other : (k : ℕ) → (k ≡ 2 * n + 1 → ⊥) → (k ≡ 2 * n → ⊥) → S′ .sets k ≡ S .sets k
+      other k y z = upd-other (upd (S .sets) (2 * n) m) (2 * n + 1) b k y ∙ upd-other (S .sets) (2 * n) m k z
+
+      to : {c d : ℕ} → mask S′ i ≡ c → bound S′ i ≡ d → P c d → P (mask S′ i) (bound S′ i)
+      to {c} {d} e g k = subst (P (mask S′ i)) (sym g) (subst (λ (v : ℕ). P v d) (sym e) k)
+
+-- a state with the same sets, assigned and active roles
+pub same-separated : (S S′ : State) → Separated S → S′ .sets ≡ S .sets → S′ .juniors ≡ S .juniors → S′ .assigned ≡ S .assigned
+    → S′ .active ≡ S .active → Separated S′
+same-separated S S′ f e j a c =
+    separated-less S S′ f (λ i h. sym (ap (λ (w : ℕ → ℕ). w i) e))
+    (λ u q h k. sym (authorised-same S′ S j u q (ap (λ (w : ℕ → ℕ). w u) a)) ∙ k)
+    (λ s r hs hr m. sym (ap (λ (w : ℕ → ℕ). has (w s) r) c) ∙ m)
+
+module _ (S : State) (f : Separated S) where
+  -- the active roles of session s include fewer of each dynamic set than its bound
+  pub active-separated : (s w : ℕ) → ((n : ℕ) → n < 16 → Fewer (mask S (16 + n)) (bound S (16 + n)) (has w)) → Separated (withActive S s w)
+  unfolding covers authorised
+  active-separated s w k = record {
+    static-holds = f .static-holds;
+    dynamic-holds = λ n p hn hp. by-upd (S .active) s w (λ (v : ℕ). Fewer (mask S (16 + n)) (bound S (16 + n)) (has v)) p (λ e. k n hn) (λ d. f .dynamic-holds n p hn hp);
+    pairs-good = f .pairs-good;
+  }
+
+  -- fewer active roles, and fewer assigned ones
+  pub active-less : (s w : ℕ) → ((r : ℕ) → r < 64 → has w r ≡ true → has (S .active s) r ≡ true) → Separated (withActive S s w)
+  unfolding covers authorised
+  active-less s w k =
+      separated-less S (withActive S s w) f (λ i h. refl) (λ u q h e. e) (λ p r hp hr m.
+      by-upd (S .active) s w (λ (v : ℕ). has v r ≡ true → has (S .active p) r ≡ true) p
+      (λ e q. ap (λ (n : ℕ). has (S .active n) r) e ∙ k r hr q) (λ n q. q) m)
+
+  pub assigned-less : (u w : ℕ) → ((r : ℕ) → r < 64 → has w r ≡ true → has (S .assigned u) r ≡ true) → Separated (withAssigned S u w)
+  assigned-less u w k =
+      separated-less S (withAssigned S u w) f (λ i h. refl)
+      (λ v q h e. authorised-more (withAssigned S u w) S refl v q (λ r hr m.
+      by-upd (S .assigned) u w (λ (a : ℕ). has a r ≡ true → has (S .assigned v) r ≡ true) v
+      (λ d l. ap (λ (n : ℕ). has (S .assigned n) r) d ∙ k r hr l) (λ n l. l) m) e)
+      (λ p r hp hr m. m)
+
+  pub ended-separated : (s : ℕ) → Separated (withHolds (withActive (withOwner S s 0) s 0) s (λ x. 0))
+  ended-separated s = same-separated (withActive S s 0) _ (active-less s 0 (λ r h m. clash m (has-zero r))) refl refl refl refl
+
+  -- the authorised roles of user u include fewer of each static set than its bound
+  pub assigned-separated : (u w : ℕ) → ((n : ℕ) → n < 16 → Fewer (mask S n) (bound S n) (covers S w)) → Separated (withAssigned S u w)
+  unfolding covers authorised
+  assigned-separated u w k = record {
+    static-holds = λ n v hn hv. by-upd (S .assigned) u w (λ (a : ℕ). Fewer (mask S n) (bound S n) (covers S a)) v (λ e. k n hn) (λ d. f .static-holds n v hn hv);
+    dynamic-holds = f .dynamic-holds;
+    pairs-good = f .pairs-good;
+  }
+
+  -- pair n is good and holds
+  pub set-separated : (n m b : ℕ) → GoodPair m b → ((u : ℕ) → n < 16 → u < 64 → Fewer m b (authorised S u))
+      → ((s : ℕ) → 16 ≤ n → s < 32 → Fewer m b (has (S .active s))) → Separated (withSet S n m b)
+  unfolding covers authorised
+  set-separated n m b g k l = record {
+    static-holds = λ i u hi hu. by-pair S n m b i (λ c d. Fewer c d (authorised S u)) (λ e. k u (omega arith) hu) (λ e. f .static-holds i u hi hu);
+    dynamic-holds = λ i s hi hs. by-pair S n m b (16 + i) (λ c d. Fewer c d (has (S .active s))) (λ e. l s (omega arith) hs) (λ e. f .dynamic-holds i s hi hs);
+    pairs-good = λ i h. by-pair S n m b i GoodPair (λ e. g) (λ e. f .pairs-good i h);
+  }
+
+-- ---- what keeps a state sound
+
 module _ (S : State) (f : Sound S) where
   -- the openings of session s: each is effective
   pub holds-keeps : (s : ℕ) (w : ℕ → ℕ)
@@ -87,16 +174,18 @@ module _ (S : State) (f : Sound S) where
     openings-effective = λ p x o hp hx ho m.
         by-upd (S .holds) s w (λ (g : ℕ → ℕ). has (g x) o ≡ true → effective S p x o ≡ true) p
         (λ e q. ap (λ (n : ℕ). effective S n x o) e ∙ k x o hx ho q) (λ n q. f .openings-effective p x o hp hx ho q) m;
+    is-separated = same-separated S _ (f .is-separated) refl refl refl refl;
   }
 
-  -- the active roles of session s: each may be activated, and what s holds stays effective
+  -- the active roles of session s: each may be activated, what s holds stays effective, and the sets hold
   pub active-keeps : (s w : ℕ)
       → ((r : ℕ) → r < 64 → has w r ≡ true → mayActivate S s r ≡ true)
       → (idle S s ≡ true → w ≡ 0)
       → ((x o : ℕ) → x < 8 → o < 64 → has (S .holds s x) o ≡ true → effective (withActive S s w) s x o ≡ true)
+      → Separated (withActive S s w)
       → Sound (withActive S s w)
   unfolding covers authorised mayActivate
-  active-keeps s w k z l = record {
+  active-keeps s w k z l d = record {
     is-reflexive = f .is-reflexive;
     is-transitive = f .is-transitive;
     is-antisymmetric = f .is-antisymmetric;
@@ -116,14 +205,16 @@ module _ (S : State) (f : Sound S) where
         (λ b.
         effective-same (withActive S s w) S refl p x o refl refl (upd-other (S .active) s w p (eqb-false p s b))
         ∙ f .openings-effective p x o hp hx ho m);
+    is-separated = d;
   }
 
-  -- the roles assigned to user u: the roles active in the sessions of u stay authorised
+  -- the roles assigned to user u: the roles active in the sessions of u stay authorised, and the sets hold
   pub assigned-keeps : (u w : ℕ)
       → ((s r : ℕ) → s < 32 → r < 64 → S .owner s ≡ suc u → has (S .active s) r ≡ true → authorised (withAssigned S u w) u r ≡ true)
+      → Separated (withAssigned S u w)
       → Sound (withAssigned S u w)
   unfolding effective
-  assigned-keeps u w k = record {
+  assigned-keeps u w k d = record {
     is-reflexive = f .is-reflexive;
     is-transitive = f .is-transitive;
     is-antisymmetric = f .is-antisymmetric;
@@ -143,6 +234,7 @@ module _ (S : State) (f : Sound S) where
         authorised-same S′ S refl (user S s) r (upd-other (S .assigned) u w (user S s) (eqb-false (user S s) u b))
         ∙ sym (may-activate-busy S s r i) ∙ f .active-authorised s r hs hr m));
     openings-effective = f .openings-effective;
+    is-separated = d;
   }
     where
       S′ : State
@@ -171,6 +263,7 @@ module _ (S : State) (f : Sound S) where
         by-grid (S .granted) x o w y p
         (λ e e′. ap₂ (λ (a b : ℕ). effective S′ s a b) e e′ ∙ l s hs (sym (ap₂ (λ (a b : ℕ). has (S .holds s a) b) e e′) ∙ m))
         (λ e. effective-same S′ S refl s y p refl e refl ∙ f .openings-effective s y p hs hy hp m);
+    is-separated = same-separated S _ (f .is-separated) refl refl refl refl;
   }
     where
       S′ : State
@@ -194,6 +287,7 @@ module _ (S : State) (f : Sound S) where
         may-activate-same (withOwner S s (suc u)) S refl p r refl (upd-other (S .owner) s (suc u) p (eqb-false p s b))
         ∙ f .active-authorised p r hp hr m);
     openings-effective = f .openings-effective;
+    is-separated = same-separated S _ (f .is-separated) refl refl refl refl;
   }
     where
       was-idle : (p : ℕ) → idle (withOwner S s (suc u)) p ≡ true → idle S p ≡ true
@@ -221,6 +315,7 @@ module _ (S : State) (f : Sound S) where
         by-upd (S .holds) s (λ x. 0) (λ (g : ℕ → ℕ). has (g x) o ≡ true → effective S′ p x o ≡ true) p
         (λ e q. clash q (has-zero o))
         (λ n q. effective-same S′ S refl p x o refl refl (upd-other (S .active) s 0 p n) ∙ f .openings-effective p x o hp hx ho q) m;
+    is-separated = ended-separated S (f .is-separated) s;
   }
     where
       S′ : State

@@ -1,5 +1,6 @@
 -- The crate's laws, in reading order.
 pub mod State
+pub mod Separation
 pub mod Sound
 pub mod Claims
 pub mod Upd

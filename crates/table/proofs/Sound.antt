@@ -1,6 +1,6 @@
 -- Soundness and its plain facts: each from the other. Nothing else opens the definition. Assumes nothing.
 use Prim.Native.Nat.{ℕ, _<_}
-use mathlib.Core.Path.{_≡_}
+use mathlib.Core.Path.{_≡_, refl}
 use mathlib.Core.Bool.{true}
 use lib.Dec.{eqb}
 use borrow.Author.Tests.{eqb-true, eq-eqb, leb-true, le-leb}
@@ -9,13 +9,17 @@ use Rattle.bits.proofs.Truth.{and-intro, and-left, and-right, implies-intro, im
 use Rattle.bits.proofs.Below.{all-intro, all-elim}
 use Rattle.bits.proofs.Members.{each-intro, each-elim}
 use Rattle.table.specs.State.{State}
-use Rattle.table.specs.Authority.{senior, idle}
-use Rattle.table.specs.Sound.{reflexive, transitive, antisymmetric, grantsPermitted, ownersKnown, idleEmpty, activeAuthorised, openingsEffective, sound, Sound}
+use Rattle.table.specs.Authority.{senior, idle, covers, authorised, mayActivate, effective}
+use Rattle.table.specs.Changes.{setSets}
+use Rattle.table.specs.Separation.{separated}
+use Rattle.table.specs.Sound.{reflexive, transitive, antisymmetric, grantsPermitted, ownersKnown, idleEmpty, activeAuthorised, openingsEffective, rolesSound, sound, Sound}
+use Rattle.table.proofs.Separation.{separated-elim, separated-intro}
 
 module _ (S : State) where
   pub sound-elim : sound S ≡ true → Sound S
-  unfolding sound reflexive transitive antisymmetric grantsPermitted ownersKnown idleEmpty activeAuthorised openingsEffective
-  sound-elim e1 =
+  unfolding sound rolesSound reflexive transitive antisymmetric grantsPermitted ownersKnown idleEmpty activeAuthorised openingsEffective
+  sound-elim e =
+      let e1 = and-left (rolesSound S) _ e in
       let e2 = and-right (reflexive S) _ e1 in
       let e3 = and-right (transitive S) _ e2 in
       let e4 = and-right (antisymmetric S) _ e3 in
@@ -39,12 +43,14 @@ module _ (S : State) where
         active-authorised = λ s r hs hr m. each-elim _ _ (all-elim _ 32 (and-left (activeAuthorised S) _ e7) s hs) r hr m;
         openings-effective = λ s x o hs hx ho m.
             each-elim _ _ (all-elim _ 8 (all-elim _ 32 (and-right (activeAuthorised S) _ e7) s hs) x hx) o ho m;
+        is-separated = separated-elim S (and-right (rolesSound S) _ e);
       }
 
   pub sound-intro : Sound S → sound S ≡ true
-  unfolding sound reflexive transitive antisymmetric grantsPermitted ownersKnown idleEmpty activeAuthorised openingsEffective
+  unfolding sound rolesSound reflexive transitive antisymmetric grantsPermitted ownersKnown idleEmpty activeAuthorised openingsEffective
   sound-intro f =
-      and-intro (all-intro _ 64 (f .is-reflexive))
+      and-intro
+      (and-intro (all-intro _ 64 (f .is-reflexive))
       (and-intro (all-intro _ 64 (λ r hr. each-intro _ _ (λ q hq a. each-intro _ _ (λ p hp b. f .is-transitive r q p hr hq hp a b))))
       (and-intro
       (all-intro _ 64 (λ r hr. each-intro _ _ (λ q hq a.
@@ -57,4 +63,15 @@ module _ (S : State) where
       and-intro (eq-eqb (S .active s) 0 (f .idle-no-roles s hs i))
       (all-intro _ 8 (λ x hx. eq-eqb (S .holds s x) 0 (f .idle-no-openings s x hs hx i))))))
       (and-intro (all-intro _ 32 (λ s hs. each-intro _ _ (λ r hr m. f .active-authorised s r hs hr m)))
-      (all-intro _ 32 (λ s hs. all-intro _ 8 (λ x hx. each-intro _ _ (λ o ho m. f .openings-effective s x o hs hx ho m))))))))))
+      (all-intro _ 32 (λ s hs. all-intro _ 8 (λ x hx. each-intro _ _ (λ o ho m. f .openings-effective s x o hs hx ho m)))))))))))
+      (separated-intro S (f .is-separated))
+
+-- what 01 asks, and the sets
+pub sound-is : (S : State) → sound S ≡ rolesSound S and separated S
+unfolding sound
+sound-is S = refl
+
+-- 01 asks nothing of the sets
+pub sets-roles-sound : (S : State) (f : ℕ → ℕ) → rolesSound (setSets S f) ≡ rolesSound S
+unfolding rolesSound reflexive transitive antisymmetric grantsPermitted ownersKnown idleEmpty activeAuthorised openingsEffective covers authorised mayActivate effective
+sets-roles-sound S f = refl

@@ -1,5 +1,5 @@
 -- A state with one of its sections replaced, and with one of its words.
-use Rattle.bits.specs.Words.{ℕ, upd}
+use Rattle.bits.specs.Words.{ℕ, _+_, _*_, upd}
 use Rattle.table.specs.State.{State}
 
 abbrev pub setAssigned : State → (ℕ → ℕ) → State
@@ -11,6 +11,7 @@ setAssigned S f = record {
   owner = S .owner;
   active = S .active;
   holds = S .holds;
+  sets = S .sets;
 }
 
 abbrev pub setGranted : State → (ℕ → ℕ → ℕ) → State
@@ -22,6 +23,7 @@ setGranted S f = record {
   owner = S .owner;
   active = S .active;
   holds = S .holds;
+  sets = S .sets;
 }
 
 abbrev pub setOwner : State → (ℕ → ℕ) → State
@@ -33,6 +35,7 @@ setOwner S f = record {
   owner = f;
   active = S .active;
   holds = S .holds;
+  sets = S .sets;
 }
 
 abbrev pub setActive : State → (ℕ → ℕ) → State
@@ -44,6 +47,7 @@ setActive S f = record {
   owner = S .owner;
   active = f;
   holds = S .holds;
+  sets = S .sets;
 }
 
 abbrev pub setHolds : State → (ℕ → ℕ → ℕ) → State
@@ -55,6 +59,19 @@ setHolds S f = record {
   owner = S .owner;
   active = S .active;
   holds = f;
+  sets = S .sets;
+}
+
+abbrev pub setSets : State → (ℕ → ℕ) → State
+setSets S f = record {
+  juniors = S .juniors;
+  permitted = S .permitted;
+  assigned = S .assigned;
+  granted = S .granted;
+  owner = S .owner;
+  active = S .active;
+  holds = S .holds;
+  sets = f;
 }
 
 abbrev pub withAssigned : State → ℕ → ℕ → State
@@ -72,3 +89,7 @@ withActive S s w = setActive S (upd (S .active) s w)
 -- the eight words of openings of session s, one a mode
 abbrev pub withHolds : State → ℕ → (ℕ → ℕ) → State
 withHolds S s f = setHolds S (upd (S .holds) s f)
+
+-- the roles and the bound of separation set n
+abbrev pub withSet : State → ℕ → ℕ → ℕ → State
+withSet S n m b = setSets S (upd (upd (S .sets) (2 * n) m) (2 * n + 1) b)

@@ -26,6 +26,9 @@ activeAt s = 680 + s
 abbrev pub holdsAt : ℕ → ℕ → ℕ
 holdsAt s x = 712 + 8 * s + x
 
+abbrev pub setsAt : ℕ → ℕ
+setsAt i = 968 + i
+
 -- ---- the state that a table shows
 
 abbrev pub word : List ℕ → ℕ → ℕ
@@ -40,4 +43,5 @@ state t = record {
   owner = λ s. word t (ownerAt s);
   active = λ s. word t (activeAt s);
   holds = λ s x. word t (holdsAt s x);
+  sets = λ i. word t (setsAt i);
 }

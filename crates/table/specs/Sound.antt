@@ -1,9 +1,10 @@
--- Soundness of a state: a definition for each clause of 01, in its words, and the clauses together. `Sound` says the same
--- as plain facts.
+-- Soundness of a state: a definition for each clause of 01, in its words, the clauses together, and with them those of 02.
+-- `Sound` says the same as plain facts.
 use Rattle.bits.specs.Words.{ℕ, _≤_, _<_, _≡_, Bool, true, eqb, leb, _and_, _implies_, has, all}
 use Rattle.bits.specs.Sets.{each}
 use Rattle.table.specs.State.{State}
 use Rattle.table.specs.Authority.{senior, permission, idle, mayActivate, effective}
+use Rattle.table.specs.Separation.{separated, Separated}
 
 -- seniority is reflexive, transitive and has no two different roles each senior to the other
 unfoldable pub reflexive : State → Bool
@@ -35,8 +36,9 @@ activeAuthorised S = all 32 (λ s. each (S .active s) (λ r. mayActivate S s r))
 unfoldable pub openingsEffective : State → Bool
 openingsEffective S = all 32 (λ s. all 8 (λ x. each (S .holds s x) (λ o. effective S s x o)))
 
-unfoldable pub sound : State → Bool
-sound S =
+-- what 01 asks
+unfoldable pub rolesSound : State → Bool
+rolesSound S =
     reflexive S
     and transitive S
     and antisymmetric S
@@ -45,6 +47,10 @@ sound S =
     and idleEmpty S
     and activeAuthorised S
     and openingsEffective S
+
+-- 02, S-4: "Soundness includes all sets and that no pair is one of error 21"
+unfoldable pub sound : State → Bool
+sound S = rolesSound S and separated S
 
 -- the same, as plain facts of the roles, modes, objects and sessions that there are
 pub record Sound (S : State) : Type 0 where
@@ -58,3 +64,4 @@ pub record Sound (S : State) : Type 0 where
   pub idle-no-openings : (s x : ℕ) → s < 32 → x < 8 → idle S s ≡ true → S .holds s x ≡ 0
   pub active-authorised : (s r : ℕ) → s < 32 → r < 64 → has (S .active s) r ≡ true → mayActivate S s r ≡ true
   pub openings-effective : (s x o : ℕ) → s < 32 → x < 8 → o < 64 → has (S .holds s x) o ≡ true → effective S s x o ≡ true
+  pub is-separated : Separated S

@@ -4,7 +4,7 @@ use Rattle.table.specs.State.{State}
 
 -- the number of words of a table
 abbrev pub tableLength : ℕ
-tableLength = 968
+tableLength = 1032
 
 unfoldable pub isTable : List ℕ → Bool
 isTable t = eqb (length t) tableLength
@@ -14,7 +14,7 @@ unfoldable pub tabulate : {A : Type 0} → ℕ → (ℕ → A) → List A
 tabulate zero f = []
 tabulate (suc n) f = f 0 ∷ tabulate n (λ i. f (suc i))
 
--- its sections, in the order of 01
+-- its sections, in the order of 01 and 02
 unfoldable pub encode : State → List ℕ
 encode S =
     tabulate 64 (S .juniors)
@@ -23,4 +23,5 @@ encode S =
     ++ (tabulate 512 (λ i. S .granted (i / 64) (i % 64))
     ++ (tabulate 32 (S .owner)
     ++ (tabulate 32 (S .active)
-    ++ tabulate 256 (λ i. S .holds (i / 8) (i % 8)))))))
+    ++ (tabulate 256 (λ i. S .holds (i / 8) (i % 8))
+    ++ tabulate 64 (S .sets)))))))

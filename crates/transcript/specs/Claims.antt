@@ -38,7 +38,7 @@ BlocksDoNotMatter =
     (table l written : List ℕ) (q : Standing) → isTable table ≡ true → Calls (begun table) l written q
     → header ++ written ++ closing (q .number) (q .reader) ≡ output l
 
--- Which refusals does a transcript never show? 12 to 15 and 18: every answer in the output of any input, wherever that ends, is
+-- Which refusals does a transcript never show? 12 to 15, 18 and 21: every answer in the output of any input, wherever that ends, is
 -- one of those that are shown.
 abbrev pub NeverShown : Type 0
 NeverShown = (l : List ℕ) (r : Result) → List·Memᴰ r (replies l) → shows (r .answer) ≡ true

@@ -15,11 +15,16 @@ struct World {
     objects: Vec<u64>,
     modes: Vec<u64>,
     labels: Vec<u64>,
+    sets: Vec<u64>,
+    /// Whether every request is one that a transcript has a word for.
+    worded: bool,
 }
 
 impl World {
+    /// Numbers of each kind, the last of a kind more often than another.
     fn new(random: &mut Random) -> World {
-        let mut pool = |size: usize, count: u64| (0..size).map(|_| random.below(count)).collect();
+        let mut number = |count: u64| if random.chance(8) { count - 1 } else { random.below(count) };
+        let mut pool = |size: usize, count: u64| (0..size).map(|_| number(count)).collect();
         World {
             users: pool(3, 64),
             roles: pool(6, 64),
@@ -27,7 +32,14 @@ impl World {
             objects: pool(4, 64),
             modes: pool(2, 8),
             labels: pool(5, 32),
+            sets: pool(3, 16),
+            worded: false,
         }
+    }
+
+    /// The same, for the requests of a transcript.
+    fn of_words(random: &mut Random) -> World {
+        World { worded: true, ..World::new(random) }
     }
 
     /// Mostly from the case's few, sometimes any number in range, seldom one out of range.
@@ -36,11 +48,14 @@ impl World {
             Field::User => (&self.users, 64),
             Field::Role => (&self.roles, 64),
             Field::RoleSet => return random.set(),
+            Field::Bound => return random.one(&[0, 0, 1, 2, 2, 3, 4, 32, 63, 64, 65, 1 << 32, u64::MAX]),
             Field::Session => (&self.sessions, 32),
             Field::Object => (&self.objects, 64),
             Field::Mode => (&self.modes, 8),
             Field::LabelMode => (&[0, 1], 2),
             Field::Label => (&self.labels, 32),
+            Field::SetNumber if random.chance(8) => return 16,
+            Field::SetNumber => (&self.sets, 16),
         };
         match random.below(200) {
             0 => count,
@@ -77,7 +92,8 @@ impl Layer {
 
     /// A request of a code by weights; one without a request of its own has the arguments of code 1.
     fn weighted(self, random: &mut Random, world: &World, weights: &[u64]) -> Step {
-        let code = code(random, weights);
+        let worded = if world.worded { self.worded() as usize } else { weights.len() };
+        let code = code(random, &weights[..worded], self.codes());
         let fields = self.request(code).or(self.request(1)).map_or(&[][..], |word| word.fields);
         let mut argument = |at: usize| match fields.get(at) {
             Some(field) => world.value(random, *field),
@@ -87,25 +103,65 @@ impl Layer {
     }
 }
 
-/// The case with the roles of most role starts chosen by what the user is authorised for at that step.
+/// The case with the roles of most role starts and separation sets chosen by what users are authorised for, or sessions have
+/// active, at that step.
 fn with_roles(random: &mut Random, world: &World, steps: Vec<Step>) -> Case {
     let mut case = Case(steps);
     let mut run = Run::default();
     for step in &mut case.0 {
-        if let Step::Role([3, _, user, roles]) = step {
-            let mut authorised = [0];
-            (PLAIN.authorised_roles)(&run.table, *user, &mut authorised);
-            let some = authorised[0] & random.word();
-            *roles = match random.below(10) {
-                0..=3 => some,
-                4 => authorised[0],
-                5 | 6 => some | 1 << random.one(&world.roles),
-                _ => *roles,
-            };
+        match step {
+            Step::Role([3, _, user, roles]) => choose_roles(random, world, authorised(&run.table, *user), roles),
+            Step::Role([11, _, mask, bound]) if random.chance(75) => {
+                let roles = authorised(&run.table, random.one(&world.users));
+                (*mask, *bound) = pair_near(random, world, roles, roles);
+            }
+            Step::Role([12, _, mask, bound]) if random.chance(75) => {
+                let [owner, active] = seat(&run.table, random.one(&world.sessions) as usize);
+                (*mask, *bound) = pair_near(random, world, authorised(&run.table, owner.wrapping_sub(1)), active);
+            }
+            _ => {}
         }
         run.step(&PLAIN, step);
     }
     case
+}
+
+/// The authorised roles of a user; none where the table or the user is refused.
+fn authorised(table: &[u64], user: u64) -> u64 {
+    let mut roles = [0];
+    (PLAIN.authorised_roles)(table, user, &mut roles);
+    roles[0]
+}
+
+/// The words of a session's user and active roles, where the table is so long.
+fn seat(table: &[u64], session: usize) -> [u64; 2] {
+    [648, 680].map(|first| table.get(first + session).copied().unwrap_or(0))
+}
+
+/// Mostly some of the authorised roles, all of them, or one of the case's few besides.
+fn choose_roles(random: &mut Random, world: &World, authorised: u64, roles: &mut u64) {
+    let some = authorised & random.word();
+    *roles = match random.below(10) {
+        0..=3 => some,
+        4 => authorised,
+        5 | 6 => some | 1 << random.one(&world.roles),
+        _ => *roles,
+    };
+}
+
+/// A mask of some of the roles in reach and two of the case's few, with a bound near the number of those that somebody has,
+/// near the number of all, or small; seldom the empty pair.
+fn pair_near(random: &mut Random, world: &World, reach: u64, had: u64) -> (u64, u64) {
+    let mask = reach & random.word() | 1 << random.one(&world.roles) | 1 << random.one(&world.roles);
+    let size = |set: u64| u64::from(set.count_ones());
+    match random.below(12) {
+        0 => (0, 0),
+        1 => (mask, size(mask & had)),
+        2..=6 => (mask, size(mask & had).max(1) + 1),
+        7 => (mask, size(mask)),
+        8 => (mask, size(mask) + 1),
+        _ => (mask, 2 + random.below(3)),
+    }
 }
 
 /// 0, but seldom not.
@@ -117,10 +173,10 @@ fn unlisted(random: &mut Random) -> u64 {
     }
 }
 
-/// A code by weights, the first that of code 1; seldom one that there is not.
-fn code(random: &mut Random, weights: &[u64]) -> u64 {
+/// A code by weights, the first that of code 1; seldom one that there is not, the last being given.
+fn code(random: &mut Random, weights: &[u64], last: u64) -> u64 {
     if random.chance(3) {
-        return random.one(&[0, weights.len() as u64 + 1, u64::MAX]);
+        return random.one(&[0, last + 1, u64::MAX]);
     }
     let mut left = random.below(weights.iter().sum());
     let mut code = 1;
@@ -135,8 +191,8 @@ fn code(random: &mut Random, weights: &[u64]) -> u64 {
 }
 
 /// How often each role request is made on a table in use, and on one that is to come into use.
-const ROLE_WEIGHTS: [u64; 10] = [20, 6, 8, 3, 16, 8, 9, 8, 12, 8];
-const ROLE_GROWTH: [u64; 10] = [4, 0, 4, 0, 4, 0, 6, 0, 6, 0];
+const ROLE_WEIGHTS: [u64; 12] = [20, 6, 8, 3, 16, 8, 9, 8, 12, 8, 6, 6];
+const ROLE_GROWTH: [u64; 12] = [4, 0, 4, 0, 4, 0, 6, 0, 6, 0, 1, 1];
 
 /// The same for label requests.
 const LABEL_WEIGHTS: [u64; 5] = [30, 6, 14, 4, 10];
@@ -236,9 +292,9 @@ pub fn requests(random: &mut Random, layer: Layer) -> Case {
     with_roles(random, &world, steps)
 }
 
-/// A table brought into use, and so many requests of its layer.
-pub fn many_requests(random: &mut Random, layer: Layer, count: usize) -> Case {
-    let world = World::new(random);
+/// A table brought into use, and so many requests of its layer, without those that no transcript has a word for.
+pub fn worded_requests(random: &mut Random, layer: Layer, count: usize) -> Case {
+    let world = World::of_words(random);
     let mut steps = layer.beginning(random, &world);
     steps.extend((0..count).map(|_| layer.any_request(random, &world)));
     with_roles(random, &world, steps)
@@ -254,12 +310,15 @@ fn any_call(random: &mut Random, world: &World) -> Step {
     }
 }
 
+/// Where the pairs of the separation sets begin.
+const SETS: u64 = 968;
+
 /// Where each section of the table begins, and its end.
-const SECTIONS: [u64; 8] = [0, 64, 72, 136, 648, 680, 712, WORDS as u64];
+const SECTIONS: [u64; 9] = [0, 64, 72, 136, 648, 680, 712, SETS, WORDS as u64];
 
 /// A place in a random section.
 fn place(random: &mut Random) -> usize {
-    let section = random.below(7) as usize;
+    let section = random.below(SECTIONS.len() as u64 - 1) as usize;
     (SECTIONS[section] + random.below(SECTIONS[section + 1] - SECTIONS[section])) as usize
 }
 
@@ -275,7 +334,14 @@ fn damage(random: &mut Random) -> Step {
 
 /// Another length of the table, mostly near the right one.
 fn wrong_length(random: &mut Random) -> Step {
-    Step::Length(random.one(&[0, 1, 72, 967, 967, 969, 969, 1032, 5000]))
+    Step::Length(random.one(&[0, 1, 72, SETS as usize, WORDS - 1, WORDS - 1, WORDS + 1, WORDS + 1, 5000]))
+}
+
+/// A whole pair of one of the 32 sets: a few of the case's roles, and a bound of 2 or 3.
+fn pair_put(random: &mut Random, world: &World) -> Vec<Step> {
+    let at = (SETS + 2 * random.below(32)) as usize;
+    let mask = (0..3).fold(0, |mask, _| mask | 1 << random.one(&world.roles));
+    vec![Step::Put(at, mask), Step::Put(at + 1, random.one(&[2, 2, 2, 3]))]
 }
 
 /// A table that comes into use, and rounds of requests, a copy kept, and what is done to the table then.
@@ -294,11 +360,14 @@ fn in_rounds(random: &mut Random, disturb: impl Fn(&mut Random, &World, Layer) -
 /// A table in use that is damaged, called and restored, several times over. Role requests meet label tables too.
 pub fn damaged(random: &mut Random) -> Case {
     in_rounds(random, |random, world, _| {
-        let damages = list(random, 3, |random| match random.below(6) {
-            0 => wrong_length(random),
-            1 => any_call(random, world),
-            _ => damage(random),
-        });
+        let damages = match random.chance(20) {
+            true => pair_put(random, world),
+            false => list(random, 3, |random| match random.below(6) {
+                0 => wrong_length(random),
+                1 => any_call(random, world),
+                _ => damage(random),
+            }),
+        };
         let calls = list(random, 6, |random| any_call(random, world));
         [damages, calls, vec![Step::Restore]].concat()
     })

@@ -17,7 +17,7 @@ mod transcripts;
 mod words;
 
 pub use case::{Case, Step};
-pub use generate::{damage_everywhere, damaged, likeness, many_requests, requests, set_ups};
+pub use generate::{damage_everywhere, damaged, likeness, requests, set_ups, worded_requests};
 #[cfg(feature = "proved")]
 pub use guard::PROVED;
 pub use guard::{guards, Guard, GUARDS, PLAIN, REFERENCE};

@@ -1,7 +1,7 @@
 //! Which answers and refusals were reached, and which have to be.
 
 use crate::case::Step;
-use crate::words::{Layer, Word, OTHER_CALLS};
+use crate::words::{Layer, Word, ASSIGNMENT_NO, OTHER_CALLS};
 use std::collections::BTreeMap;
 
 /// How often each answer was reached: the call or the line, and its numbers.
@@ -89,6 +89,8 @@ pub fn every_call() -> Vec<String> {
             all.extend(own.iter().chain(tables).map(|answer| request_answer(layer, code, *answer)));
         }
     }
+    let (code, answer) = ASSIGNMENT_NO;
+    all.push(request_answer(Layer::Roles, code, answer));
     all
 }
 

@@ -37,7 +37,7 @@ pub fn setup_lines(step: &Step) -> Option<Vec<String>> {
 
 /// A request as a line, where it has a word and every argument that is not listed is 0.
 fn request_line(layer: Layer, [code, a, b, c]: [u64; 4]) -> Option<String> {
-    let word = layer.request(code)?;
+    let word = layer.request(code).filter(|_| code <= layer.worded())?;
     let arguments = [a, b, c];
     let (listed, unlisted) = arguments.split_at(word.fields.len());
     unlisted.iter().all(|argument| *argument == 0).then(|| tabbed(word.name, listed))

@@ -1,6 +1,6 @@
 //! Whole transcripts: random ones with faulty lines among good ones, and their output by several programs.
 
-use crate::generate::requests;
+use crate::generate::worded_requests;
 use crate::random::Random;
 use crate::reached::Reached;
 use crate::shrink::shrink;
@@ -142,7 +142,8 @@ pub fn random_transcript(random: &mut Random) -> Vec<u8> {
 
 /// The lines of a random case that a transcript can say, its requests going on so many times.
 fn transcript_lines(random: &mut Random, layer: Layer, times: usize) -> Vec<Vec<u8>> {
-    let text = requests(random, layer).to_string();
+    let count = 1 + random.below(100) as usize;
+    let text = worded_requests(random, layer, count).to_string();
     let lines: Vec<&str> = text.lines().filter(|line| !line.starts_with('!')).collect();
     let end = lines.iter().position(|line| *line == "run").map_or(lines.len(), |at| at + 1);
     let (setup, asked) = lines.split_at(end);

@@ -1,7 +1,8 @@
 //! The words of a transcript in each mode, after the scope's tables: what a word's fields name, the code of a request, and
-//! the answers. What has to be reached (`every_call`, `every_transcript`) is derived from this one page.
+//! the answers; and the requests that have no word. What has to be reached (`every_call`, `every_transcript`) is derived from
+//! this one page.
 
-use Field::{Label, LabelMode, Mode, Object, Role, RoleSet, Session, User};
+use Field::{Bound, Label, LabelMode, Mode, Object, Role, RoleSet, Session, SetNumber, User};
 
 /// The layer that a table is set up for; in a transcript the mode.
 #[derive(Clone, Copy, Debug, PartialEq, Eq)]
@@ -23,6 +24,10 @@ pub enum Field {
     /// A mode of the label layer, 0 or 1.
     LabelMode,
     Label,
+    /// The number of a separation set.
+    SetNumber,
+    /// The bound of a separation set, any number.
+    Bound,
 }
 
 /// A word of a mode.
@@ -49,6 +54,7 @@ const CYCLE: [u64; 2] = [20, 0];
 const NO: [u64; 2] = [0, 1];
 const YES: [u64; 2] = [1, 1];
 const NO_PERMISSION: [u64; 2] = [17, 0];
+const BAD_PAIR: [u64; 2] = [21, 0];
 
 const ROLES: [Word; 13] = [
     set_up("above", &[Role, Role], &[ACCEPTED]),
@@ -65,6 +71,15 @@ const ROLES: [Word; 13] = [
     request(9, "grant", &[Role, Mode, Object], &[YES, NO_PERMISSION]),
     request(10, "revoke", &[Role, Mode, Object], &[NO, YES, NO_PERMISSION]),
 ];
+
+/// The role requests that no transcript has a word for.
+const WORDLESS: [Word; 2] = [
+    request(11, "static set", &[SetNumber, RoleSet, Bound], &[NO, YES, BAD_PAIR]),
+    request(12, "dynamic set", &[SetNumber, RoleSet, Bound], &[NO, YES, BAD_PAIR]),
+];
+
+/// The no of an assignment, by its code: no transcript shows it, since none makes a separation set.
+pub const ASSIGNMENT_NO: (u64, [u64; 2]) = (7, NO);
 
 const LABELS: [Word; 8] = [
     set_up("clear", &[User, Label], &[ACCEPTED]),
@@ -110,14 +125,27 @@ impl Layer {
         }
     }
 
-    /// How many requests there are; their codes are from 1 on.
-    pub fn codes(self) -> u64 {
+    /// The requests that no transcript has a word for.
+    fn wordless(self) -> &'static [Word] {
+        match self {
+            Layer::Roles => &WORDLESS,
+            Layer::Labels => &[],
+        }
+    }
+
+    /// How many requests have a word; their codes are from 1 on.
+    pub fn worded(self) -> u64 {
         self.words().iter().filter(|word| word.code.is_some()).count() as u64
+    }
+
+    /// How many requests there are; those without a word have the last codes.
+    pub fn codes(self) -> u64 {
+        self.worded() + self.wordless().len() as u64
     }
 
     /// The request of a code.
     pub fn request(self, code: u64) -> Option<&'static Word> {
-        self.words().iter().find(|word| word.code == Some(code))
+        self.words().iter().chain(self.wordless()).find(|word| word.code == Some(code))
     }
 
     /// The word of a name with so many fields.

@@ -1,6 +1,6 @@
 //! Fixed cases on the second implementation and on every guard that is held to it: the rows of the program `cases`
-//! (`crates/cases`), whose expected output is the list of answers here too, the points of bench case J, and starts with
-//! roles.
+//! (`crates/cases`), whose expected output is the list of answers here too, the points of bench case J, starts with roles, and
+//! separation sets.
 
 use compare::{compare, guards, Case, Guard, Reached, Run, Step, GUARDS, LENT};
 use reference::{Label, WORDS};
@@ -97,6 +97,14 @@ const CHOSEN: &str = "
     start 2 2 8; drop 2 3; open 2 9 0
     start 3 64 0; start 4 3 1; start 4 3 0";
 
+/// Sets over roles 1, 3 and 5 (mask 42) with good and bad bounds, and requests that would and would not break one.
+const SETS: &str = "
+    roles; above 5 3; above 3 1; permit 0 9; run
+    !role 11 16 42 1; !role 11 0 42 1; !role 11 0 42 0; !role 11 0 0 2; !role 11 0 42 4; !role 11 0 42 3
+    assign 2 5; assign 2 3; !role 11 0 42 2; !role 11 0 0 0; assign 2 5
+    !role 12 0 42 2; start 0 2 32; activate 0 3; activate 0 5; start 1 2 40
+    !role 12 15 42 2; !role 12 16 42 2; !role 13 0 0 0";
+
 /// Lines with blanks for tabs, parted by line ends or semicolons.
 fn lines(text: &str) -> impl Iterator<Item = &str> {
     text.split(['\n', ';']).map(str::trim).filter(|line| !line.is_empty())
@@ -144,7 +152,7 @@ fn numbered(first: u64, rows: Vec<[u64; 2]>) -> impl Iterator<Item = String> {
 fn rows_of_the_program_cases() {
     let source = [SOURCE, DERIVED].join("\n");
     let played = [(100, case(BENCH)), (200, case(&source)), (300, case(LISTING)), (400, case(CONFUSED))];
-    let chosen = case(CHOSEN);
+    let chosen = [(700, case(CHOSEN)), (800, case(SETS))];
     for guard in guards() {
         let mut rows: Vec<String> = Vec::new();
         for (first, case) in &played {
@@ -153,13 +161,15 @@ fn rows_of_the_program_cases() {
         let compared = PAIRS.map(|(a, b)| [(guard.compare_labels)(a, b), 0]);
         rows.extend(numbered(501, compared.to_vec()));
         rows.extend(numbered(601, play(&refused(), guard)));
-        rows.extend(numbered(700, play(&chosen, guard)));
+        for (first, case) in &chosen {
+            rows.extend(numbered(*first, play(case, guard)));
+        }
         for (row, expected) in rows.iter().zip(EXPECTED.lines()) {
             assert_eq!(row, expected, "{}", guard.name);
         }
         assert_eq!(rows.len(), EXPECTED.lines().count(), "{}", guard.name);
     }
-    for case in played.iter().map(|(_, case)| case).chain([&chosen]) {
+    for (_, case) in played.iter().chain(&chosen) {
         assert_eq!(compare(case, GUARDS, &mut Reached::default()), Ok(()));
     }
 }
@@ -233,6 +243,16 @@ fn case_j_label_32() {
     }
 }
 
+#[test]
+fn case_j_code_13_and_set_16() {
+    expect(
+        "roles; run
+         !role 12 15 3 2: 1; !role 12 16 3 2: 16; !role 12 16 0 0: 16; !role 12 18446744073709551615 3 2: 16
+         !role 11 15 3 2: 1; !role 11 16 3 2: 16; !role 11 16 0 0: 16; !role 11 18446744073709551615 3 2: 16
+         !role 13 15 3 2: 15; !role 13 16 3 1: 15; !role 0 0 0 0: 15",
+    );
+}
+
 /// Every call that takes a table, with its answers (and spent) on as many words as a table has and on another number. Likeness
 /// answers for the table as the second and as the first.
 fn calls() -> [(Step, Vec<u64>, Vec<u64>); 7] {
@@ -250,7 +270,7 @@ fn calls() -> [(Step, Vec<u64>, Vec<u64>); 7] {
 #[test]
 fn case_j_other_lengths() {
     for guard in guards() {
-        for words in [0, WORDS - 1, WORDS, WORDS + 1] {
+        for words in [0, 968, 1031, WORDS, 1033] {
             let mut run = after(guard, "lattice; clear 5 31; run; start 3 5 9");
             run.step(guard, &Step::Keep);
             run.step(guard, &Step::Length(words));
@@ -370,5 +390,162 @@ fn a_label_start_is_one_role_start() {
                 assert!(by_label.table == by_roles.table, "clearance {clearance}, level {level}, {}", guard.name);
             }
         }
+    }
+}
+
+/// The mask of roles 1, 3 and 5 is 42, of 3 and 5 it is 40, of 5 it is 32.
+#[test]
+fn separation_sets() {
+    expect(
+        "roles; above 5 3; above 3 1; run
+         !role 11 16 42 1: 16; !role 11 0 42 1: 21; !role 11 0 42 0: 21; !role 11 0 0 2: 21; !role 11 0 42 4: 21
+         !role 11 0 42 3: 1; assign 2 5: 0; assign 2 3: 1; !role 11 0 42 2: 0; assign 2 5: 0
+         !role 11 0 0 0: 1; assign 2 5: 1
+         !role 12 0 42 2: 1; start 0 2 32: 1; activate 0 3: 0; activate 0 5: 1; start 1 2 40: 0; start 1 2 8: 1
+         !role 12 0 42 3: 1; activate 0 3: 1; activate 0 1: 0; drop 0 5: 1; activate 0 1: 1; activate 0 5: 0",
+    );
+}
+
+/// A bound is a whole word, and all 64 roles may be in a set.
+#[test]
+fn large_pairs() {
+    let each: String = (0..63).map(|role| format!("; assign 63 {role}: 1")).collect();
+    expect(&format!(
+        "roles; run
+         !role 11 0 {all} 65: 21; !role 11 0 {all} {all}: 21; !role 11 0 {all} 4294967298: 21; !role 11 0 {all} 1: 21
+         !role 11 0 {all} 64: 1{each}; assign 63 63: 0; assign 62 63: 1; !role 11 1 {all} 63: 0; !role 12 0 {all} 2: 1
+         start 31 63 9223372036854775807: 0; start 31 63 4611686018427387904: 1; activate 31 0: 0",
+        all = u64::MAX
+    ));
+}
+
+/// What is there already may be added again, also where a role more would break a set.
+#[test]
+fn added_again_beside_sets() {
+    expect(
+        "roles; above 5 3; above 3 1; permit 0 9; run
+         assign 2 3: 1; assign 2 2: 1; start 0 2 8: 1; grant 1 0 9: 1; open 0 9 0: 1
+         !role 11 4 46 4: 1; !role 11 4 46 4: 1; !role 12 4 46 2: 1; !role 12 4 46 2: 1
+         assign 2 3: 1; assign 2 1: 1; assign 2 5: 0; activate 0 3: 1; activate 0 2: 0; open 0 9 0: 1
+         deassign 2 2: 1; assign 2 5: 1; assign 2 2: 0; end 0: 1; start 0 2 32: 1; end 0: 1; start 0 2 4: 0",
+    );
+}
+
+/// Replaces a set and holds the answer and every word to what is expected: yes writes the set's mask and bound and nothing
+/// else, and all else leaves the table.
+fn replace(run: &mut Run, guard: &Guard, [code, set, mask, bound]: [u64; 4], answer: u64) {
+    let mut expected = run.table.clone();
+    if answer == 1 {
+        let at = if code == 11 { 968 } else { 1000 } + 2 * set as usize;
+        (expected[at], expected[at + 1]) = (mask, bound);
+    }
+    let reply = run.step(guard, &Step::Role([code, set, mask, bound]));
+    let asked = format!("code {code} {set} {mask} {bound} by the {}", guard.name);
+    assert_eq!(reply.map(|reply| reply.answers), Some(vec![answer]), "{asked}");
+    assert!(run.table == expected, "{asked}");
+}
+
+/// User 2 has roles 3 and 1, without a session; session 0 of user 4 has roles 5 and 3 active.
+const SEPARATE: &str = "roles; above 5 3; above 3 1; run; assign 2 3; assign 4 5; start 0 4 40";
+
+#[test]
+fn words_of_sets() {
+    for guard in guards() {
+        let mut run = after(guard, SEPARATE);
+        for (asked, answer) in [
+            ([11, 0, 42, 3], 0), // user 4 has all three
+            ([11, 0, 1 << 7 | 42, 4], 1),
+            ([11, 0, 1 << 7 | 10, 2], 0), // user 2 has two of them
+            ([11, 0, 1 << 7 | 42, 5], 21),
+            ([11, 0, 1 << 7 | 2, 2], 1),
+            ([11, 15, u64::MAX, 64], 1),
+            ([12, 0, 40, 2], 0), // both are active
+            ([12, 0, 42, 2], 0),
+            ([12, 0, 42, 3], 1), // role 1, a junior of an active one, does not count
+            ([12, 15, 34, 2], 1),
+            ([12, 15, 0, 0], 1),
+            ([12, 15, 0, 0], 1),
+            ([11, 0, 0, 0], 1),
+        ] {
+            replace(&mut run, guard, asked, answer);
+        }
+    }
+}
+
+/// A pair of error 21 and a set that does not hold make a table unsound, whatever is asked of it.
+#[test]
+fn damaged_sets() {
+    let pairs: [(usize, u64, u64); 12] = [
+        (968, 42, 0),
+        (968, 42, 1),
+        (968, 42, 4),
+        (998, 0, 1),
+        (1030, 0, 2),
+        (1000, 42, u64::MAX),
+        (1030, 1 << 63, 2),
+        (968, 10, 2), // users 2 and 4
+        (998, 42, 3), // user 4 alone
+        (980, 1 << 7 | 42, 3),
+        (1000, 40, 2), // session 0
+        (1030, 42, 2),
+    ];
+    for guard in guards() {
+        for (at, mask, bound) in pairs {
+            let mut run = after(guard, SEPARATE);
+            (run.table[at], run.table[at + 1]) = (mask, bound);
+            for asked in [[11, 0, 0, 0], [12, 16, 42, 1], [13, 0, 0, 0], [2, 0, 0, 0], [4, 0, 0, 0]] {
+                replace(&mut run, guard, asked, 13);
+            }
+        }
+    }
+}
+
+/// Every one of the 64 users counts, with a session or without, and every one of the 32 sessions.
+#[test]
+fn sets_of_every_user_and_session() {
+    let user = |user: u64| (11, 969, format!("roles; above 5 3; above 3 1; run; assign {user} 5"));
+    let session =
+        |session: u64| (12, 1001, format!("roles; above 5 3; above 3 1; run; assign 2 5; start {session} 2 42"));
+    for guard in guards() {
+        for (code, bound_at, text) in (0..64).map(user).chain((0..32).map(session)) {
+            let mut run = after(guard, &text);
+            replace(&mut run, guard, [code, 0, 42, 3], 0);
+            replace(&mut run, guard, [code, 0, 1 << 7 | 42, 4], 1);
+            run.table[bound_at] = 3;
+            replace(&mut run, guard, [code, 0, 0, 0], 13);
+        }
+    }
+}
+
+/// A label table with a set is the image of no machine state, and is one again without it.
+#[test]
+fn sets_on_label_tables() {
+    for guard in guards() {
+        for (code, set) in [(11, 0), (11, 15), (12, 0), (12, 15)] {
+            let mut run = after(guard, "lattice; clear 5 17; run; start 2 5 17");
+            let close = |run: &mut Run, answers: [u64; 2]| {
+                let reply = run.step(guard, &Step::Label([2, 2, 0, 0])).map(|reply| reply.answers);
+                assert_eq!(reply, Some(answers.to_vec()), "code {code}, set {set}, {}", guard.name);
+            };
+            // every user has all writing roles, and no session has two of them; nobody reads both 17 and 18
+            replace(&mut run, guard, [code, set, 3 << 32, 2], u64::from(code == 12));
+            replace(&mut run, guard, [code, set, 3 << 17, 2], 1);
+            close(&mut run, [14, 0]);
+            replace(&mut run, guard, [code, set, 0, 0], 1);
+            close(&mut run, [1, 1]);
+        }
+    }
+}
+
+/// Tables that differ in their sets alone are alike.
+#[test]
+fn sets_and_likeness() {
+    for guard in guards() {
+        let mut run = after(guard, SEPARATE);
+        run.step(guard, &Step::Keep);
+        replace(&mut run, guard, [11, 3, 1 << 7 | 42, 4], 1);
+        replace(&mut run, guard, [12, 3, 1 << 7 | 42, 4], 1);
+        let alike = run.step(guard, &Step::Alike).map(|reply| reply.answers);
+        assert_eq!(alike, Some(vec![1, 1]), "{}", guard.name);
     }
 }

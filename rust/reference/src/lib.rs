@@ -4,11 +4,12 @@
 //! ([`State`]), a label table further into a Bell-LaPadula machine ([`Machine`]), the request is carried out there by
 //! the words of the scope, and the table is written anew. Nothing here is fast, and no bit is ever masked.
 //!
-//! The functions of this page take lent words and answer with the scope's numbers: 1 yes, 0 no, 12 to 20 a refusal. The
+//! The functions of this page take lent words and answer with the scope's numbers: 1 yes, 0 no, 12 to 21 a refusal. The
 //! comparison of two labels alone takes no words, and answers with a number of its own or a refusal.
 
 mod labels;
 mod requests;
+mod separation;
 mod setup;
 mod state;
 mod table;
@@ -16,6 +17,7 @@ pub mod transcript;
 mod turns;
 
 pub use labels::{Label, Machine, Standing};
+pub use separation::Separation;
 pub use state::State;
 pub use table::WORDS;
 pub use turns::WRONG;

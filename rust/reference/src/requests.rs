@@ -1,9 +1,11 @@
-//! The ten role requests.
+//! The twelve role requests.
 
-use crate::state::{Mode, Object, Role, Session, State, User, MODES, OBJECTS, ROLES, SESSIONS, USERS};
+use crate::separation::Separation;
+use crate::state::{Mode, Object, Role, Session, State, User, MODES, OBJECTS, ROLES, SESSIONS, SETS, USERS};
 use crate::table::members;
 use crate::turns::turn;
 use crate::Answer;
+use std::collections::BTreeMap;
 
 /// A role request whose arguments are in range.
 #[derive(Clone, Copy, Debug)]
@@ -19,6 +21,9 @@ enum Request {
     Deassign(User, Role),
     Grant(Role, Mode, Object),
     Revoke(Role, Mode, Object),
+    /// The number of a set, a mask of roles and a bound.
+    StaticSet(u64, u64, u64),
+    DynamicSet(u64, u64, u64),
 }
 
 /// Refusal 16: an argument is out of range.
@@ -53,44 +58,79 @@ impl Request {
             8 => Request::Deassign(below(a, USERS)?, below(b, ROLES)?),
             9 => Request::Grant(below(a, ROLES)?, below(b, MODES)?, below(c, OBJECTS)?),
             10 => Request::Revoke(below(a, ROLES)?, below(b, MODES)?, below(c, OBJECTS)?),
+            11 => Request::StaticSet(below(a, SETS)?, b, c),
+            12 => Request::DynamicSet(below(a, SETS)?, b, c),
             _ => return Err(15),
         };
         match code {
-            1 | 2 | 3 | 9 | 10 => {}
+            1 | 2 | 3 | 9..=12 => {}
             4 => unlisted(&[b, c])?,
             _ => unlisted(&[c])?,
         }
         Ok(request)
     }
+
+    /// The request with its pair looked at before its arguments' ranges, for the wrong turn.
+    #[cfg(feature = "wrong-pair-before-range")]
+    fn of_pair(code: u64, [a, b, c]: [u64; 3]) -> Result<Request, u64> {
+        match code {
+            11 | 12 if Separation::of(b, c).is_bad() => Err(21),
+            _ => Request::of(code, [a, b, c]),
+        }
+    }
 }
 
 impl State {
-    /// A role request on a sound state: refusals 15, 16 and 17, then yes or no.
+    /// A role request on a sound state: refusals 15, 16, 21 and 17, then yes or no.
     pub fn request(&mut self, code: u64, arguments: [u64; 3]) -> Answer {
-        let request = Request::of(code, arguments)?;
-        if let Request::Grant(_, x, o) | Request::Revoke(_, x, o) = request {
-            if !self.permissions.contains(&(x, o)) {
-                return Err(17);
+        let request =
+            turn!("wrong-pair-before-range", Request::of(code, arguments), Request::of_pair(code, arguments))?;
+        match request {
+            Request::StaticSet(_, mask, bound) | Request::DynamicSet(_, mask, bound)
+                if Separation::of(mask, bound).is_bad() =>
+            {
+                return Err(21)
             }
+            Request::Grant(_, x, o) | Request::Revoke(_, x, o) if !self.permissions.contains(&(x, o)) => {
+                return Err(17)
+            }
+            _ => {}
         }
         let next = self.after(request);
         let yes = self.allows(request, &next);
         if yes {
             *self = next;
         }
+        #[cfg(feature = "wrong-bound-left")]
+        self.leave_bound(request);
         Ok(yes)
+    }
+
+    /// Leaves the bound of a set whatever the answer was, for the wrong turn.
+    #[cfg(feature = "wrong-bound-left")]
+    fn leave_bound(&mut self, request: Request) {
+        let (sets, number, bound) = match request {
+            Request::StaticSet(number, _, bound) => (&mut self.static_sets, number, bound),
+            Request::DynamicSet(number, _, bound) => (&mut self.dynamic_sets, number, bound),
+            _ => return,
+        };
+        sets.entry(number).or_default().bound = bound;
+        sets.retain(|_, set| !set.is_empty());
     }
 
     /// The column "yes when".
     fn allows(&self, request: Request, next: &State) -> bool {
         match request {
             Request::Open(s, o, x) => self.effective(s).contains(&(x, o)),
-            Request::Start(s, u, mask) => self.is_idle(s) && self.are_authorised(u, mask),
+            Request::Start(s, u, mask) => self.is_idle(s) && self.are_authorised(u, mask) && next.is_separated(),
             Request::End(s) => !self.is_idle(s),
-            Request::Activate(s, r) => self.authorised_for(s).contains(&r),
+            Request::Activate(s, r) => self.authorised_for(s).contains(&r) && next.is_separated(),
+            Request::Assign(..) => next.is_separated(),
             Request::Deassign(..) => turn!("wrong-deassign-direct", next.is_sound(), !self.has_active(request)),
-            Request::Drop(..) | Request::Revoke(..) => next.is_sound(),
-            Request::Close(..) | Request::Assign(..) | Request::Grant(..) => true,
+            Request::Drop(..) | Request::Revoke(..) | Request::StaticSet(..) | Request::DynamicSet(..) => {
+                next.is_sound()
+            }
+            Request::Close(..) | Request::Grant(..) => true,
         }
     }
 
@@ -147,7 +187,15 @@ impl State {
             Request::Revoke(r, x, o) => {
                 next.granted.remove(&(x, o, r));
             }
+            Request::StaticSet(number, mask, bound) => replace(&mut next.static_sets, number, mask, bound),
+            Request::DynamicSet(number, mask, bound) => replace(&mut next.dynamic_sets, number, mask, bound),
         }
         next
     }
+}
+
+/// Puts a set in the place of the one that has its number.
+fn replace(sets: &mut BTreeMap<u64, Separation>, number: u64, mask: u64, bound: u64) {
+    sets.insert(number, Separation::of(mask, bound));
+    sets.retain(|_, set| !set.is_empty());
 }

@@ -1,5 +1,6 @@
 //! The RBAC96 state: sets, relations, and the definitions of source document 000 on them.
 
+use crate::separation::Separation;
 use crate::turns::turn;
 use std::collections::{BTreeMap, BTreeSet};
 
@@ -14,6 +15,8 @@ pub const ROLES: u64 = 64;
 pub const SESSIONS: u64 = 32;
 pub const MODES: u64 = 8;
 pub const OBJECTS: u64 = 64;
+/// How many separation sets there are of either kind.
+pub const SETS: u64 = 16;
 
 /// What a table says.
 #[derive(Clone, Debug, Default, PartialEq, Eq)]
@@ -32,6 +35,10 @@ pub struct State {
     pub active: BTreeSet<(Session, Role)>,
     /// (s, x, o): session s holds object o open in mode x.
     pub openings: BTreeSet<(Session, Mode, Object)>,
+    /// The static sets by their numbers; a number whose pair is empty is not there.
+    pub static_sets: BTreeMap<u64, Separation>,
+    /// The dynamic sets, likewise.
+    pub dynamic_sets: BTreeMap<u64, Separation>,
 }
 
 impl State {
@@ -51,8 +58,8 @@ impl State {
         above.map(|(senior, _)| *senior)
     }
 
-    /// The roles assigned to a user without their juniors, for the wrong turn.
-    #[cfg(feature = "wrong-start-by-assigned")]
+    /// The roles assigned to a user without their juniors, for the wrong turns.
+    #[cfg(any(feature = "wrong-start-by-assigned", feature = "wrong-static-by-assigned"))]
     pub fn assigned_to(&self, u: User) -> BTreeSet<Role> {
         seconds(&self.assigned, u).collect()
     }
@@ -69,6 +76,17 @@ impl State {
             Some(user) => self.authorised(*user),
             None => BTreeSet::new(),
         }
+    }
+
+    /// The active roles of a session.
+    fn active_in(&self, s: Session) -> BTreeSet<Role> {
+        seconds(&self.active, s).collect()
+    }
+
+    /// The active roles of a session and all their juniors, for the wrong turn.
+    #[cfg(feature = "wrong-dynamic-with-juniors")]
+    fn covered_in(&self, s: Session) -> BTreeSet<Role> {
+        seconds(&self.active, s).flat_map(|r| self.juniors(r)).collect()
     }
 
     /// The permissions granted to an active role of a session or to a junior of one.
@@ -93,6 +111,8 @@ impl State {
             && self.grants_are_permissions()
             && self.users.values().all(|u| *u < USERS)
             && (0..SESSIONS).all(|s| self.is_session_sound(s))
+            && self.pairs_are_good()
+            && self.is_separated()
     }
 
     fn is_reflexive(&self) -> bool {
@@ -117,12 +137,27 @@ impl State {
     /// An idle session has no roles and no openings; of another the active roles are authorised and the openings
     /// effective.
     fn is_session_sound(&self, s: Session) -> bool {
-        let active: BTreeSet<Role> = seconds(&self.active, s).collect();
+        let active = self.active_in(s);
         let held = self.held(s);
         if self.is_idle(s) {
             return active.is_empty() && held.is_empty();
         }
         active.is_subset(&self.authorised_for(s)) && held.is_subset(&self.effective(s))
+    }
+
+    /// No pair is one of error 21.
+    fn pairs_are_good(&self) -> bool {
+        self.static_sets.values().chain(self.dynamic_sets.values()).all(|set| !set.is_bad())
+    }
+
+    /// Every static set holds of each user's authorised roles, and every dynamic one of each session's active roles.
+    pub fn is_separated(&self) -> bool {
+        let users = turn!("wrong-last-user-left-out", 0..USERS, 0..USERS - 1);
+        let authorised = |u| turn!("wrong-static-by-assigned", self.authorised(u), self.assigned_to(u));
+        let active = |s| turn!("wrong-dynamic-with-juniors", self.active_in(s), self.covered_in(s));
+        let among_users = |set: &Separation| users.clone().all(|u| set.holds(&authorised(u)));
+        let among_sessions = |set: &Separation| (0..SESSIONS).all(|s| set.holds(&active(s)));
+        self.static_sets.values().all(among_users) && self.dynamic_sets.values().all(among_sessions)
     }
 
     /// The openings are the same, and each session has the same effective permissions.

@@ -1,6 +1,8 @@
 //! The table of words: reading it into sets, and writing sets into it.
 
-use crate::state::{State, MODES, OBJECTS, ROLES, SESSIONS, USERS};
+use crate::separation::Separation;
+use crate::state::{State, MODES, OBJECTS, ROLES, SESSIONS, SETS, USERS};
+use std::collections::BTreeMap;
 
 const PERMITTED: u64 = ROLES;
 const ASSIGNED: u64 = PERMITTED + MODES;
@@ -8,9 +10,11 @@ const GRANTED: u64 = ASSIGNED + USERS;
 const OWNER: u64 = GRANTED + MODES * OBJECTS;
 const ACTIVE: u64 = OWNER + SESSIONS;
 const HOLDS: u64 = ACTIVE + SESSIONS;
+const STATIC: u64 = HOLDS + SESSIONS * MODES;
+const DYNAMIC: u64 = STATIC + 2 * SETS;
 
 /// The number of words of a table.
-pub const WORDS: usize = (HOLDS + SESSIONS * MODES) as usize;
+pub const WORDS: usize = (DYNAMIC + 2 * SETS) as usize;
 
 /// Refusal 12: the table has not its number of words.
 pub fn is_table(words: &[u64]) -> Result<(), u64> {
@@ -52,8 +56,11 @@ pub fn add(words: &mut [u64], at: u64, member: u64) {
 }
 
 fn read(words: &[u64]) -> State {
-    let mut state = State::default();
-    for (at, word) in (0..).zip(words) {
+    let (parts, sets) = words.split_at(STATIC as usize);
+    let (static_words, dynamic_words) = sets.split_at((DYNAMIC - STATIC) as usize);
+    let (static_sets, dynamic_sets) = (read_sets(static_words), read_sets(dynamic_words));
+    let mut state = State { static_sets, dynamic_sets, ..State::default() };
+    for (at, word) in (0..).zip(parts) {
         match at {
             OWNER..ACTIVE if *word > 0 => {
                 state.users.insert(at - OWNER, word - 1);
@@ -63,6 +70,12 @@ fn read(words: &[u64]) -> State {
         }
     }
     state
+}
+
+/// The sets of 16 pairs of mask and bound, without the empty pairs.
+fn read_sets(words: &[u64]) -> BTreeMap<u64, Separation> {
+    let sets = words.chunks(2).map(|pair| Separation::of(pair[0], pair[1]));
+    (0..).zip(sets).filter(|(_, set)| !set.is_empty()).collect()
 }
 
 /// Adds to the state what one bit of the table says.
@@ -87,4 +100,12 @@ pub fn write(state: &State, words: &mut [u64]) {
     state.users.iter().for_each(|(s, u)| words[(OWNER + s) as usize] = u + 1);
     state.active.iter().for_each(|(s, r)| add(words, ACTIVE + s, *r));
     state.openings.iter().for_each(|(s, x, o)| add(words, HOLDS + MODES * s + x, *o));
+    state.static_sets.iter().for_each(|(k, set)| write_set(words, STATIC + 2 * k, set));
+    state.dynamic_sets.iter().for_each(|(k, set)| write_set(words, DYNAMIC + 2 * k, set));
+}
+
+/// Writes the mask and the bound of a set.
+fn write_set(words: &mut [u64], at: u64, set: &Separation) {
+    set.roles.iter().for_each(|r| add(words, at, *r));
+    words[at as usize + 1] = set.bound;
 }

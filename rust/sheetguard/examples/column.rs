@@ -1,5 +1,5 @@
-//! A role table: a session starts with a role, opens one column of a sheet through a junior of it and is refused another.
-//! Prints each answer, and stops where it is not the one that is expected.
+//! A role table: a session starts with a role, opens one column of a sheet through a junior of it and is refused another; and
+//! who edits may not release. Prints each answer, and stops where it is not the one that is expected.
 //!
 //! `cargo run --offline -p sheetguard --example column`
 
@@ -24,6 +24,11 @@ fn main() -> Result<(), Refusal> {
         (RoleRequest::Activate { session: 0, role: 1 }, Ok(Answer::Yes)),
         (RoleRequest::Revoke { role: 1, mode: 0, object: 9 }, Ok(Answer::No)),
         (RoleRequest::Grant { role: 1, mode: 1, object: 9 }, Err(Refusal::NoPermission)),
+        // role 6 edits, role 7 releases: nobody may have two of these two
+        (RoleRequest::StaticSet { set: 0, roles: 1 << 6 | 1 << 7, bound: 2 }, Ok(Answer::Yes)),
+        (RoleRequest::Assign { user: 3, role: 6 }, Ok(Answer::Yes)),
+        (RoleRequest::Assign { user: 3, role: 7 }, Ok(Answer::No)),
+        (RoleRequest::Assign { user: 4, role: 7 }, Ok(Answer::Yes)),
     ];
     for (request, expected) in requests {
         let answer = role_request(&mut table, request);

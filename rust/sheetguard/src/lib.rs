@@ -30,6 +30,28 @@
 //! # }
 //! ```
 //!
+//! # Separation of duties
+//!
+//! A role table has 16 static and 16 dynamic sets, each a set of roles and a *bound*: a number of these roles that nobody may
+//! have together. A static set looks at the authorised roles of every user, with a session or without; a dynamic one at the
+//! active roles of every session, without their juniors. A set-up leaves them empty. Who edits a formula may not release it:
+//!
+//! ```
+//! use sheetguard::{role_request, set_up_roles, Answer, Refusal, RoleRequest, WORDS};
+//!
+//! # fn main() -> Result<(), Refusal> {
+//! let (edits, releases) = (6, 7);
+//! let mut table = [0; WORDS];
+//! set_up_roles(&mut table, &[0; 64], &[0; 8])?;
+//! let apart = |bound| RoleRequest::StaticSet { set: 0, roles: 1 << edits | 1 << releases, bound };
+//! assert_eq!(role_request(&mut table, apart(2))?, Answer::Yes);
+//! assert_eq!(role_request(&mut table, RoleRequest::Assign { user: 3, role: edits })?, Answer::Yes);
+//! assert_eq!(role_request(&mut table, RoleRequest::Assign { user: 3, role: releases })?, Answer::No);
+//! assert_eq!(role_request(&mut table, apart(3)), Err(Refusal::BadPair)); // there are only two roles
+//! # Ok(())
+//! # }
+//! ```
+//!
 //! # Labels
 //!
 //! A label is `class * 8 + brand set`: a class 0 to 3, and a set of three brands, worth 1, 2 and 4. Label a *dominates* b
@@ -78,7 +100,7 @@ pub use request::{LabelRequest, RoleRequest};
 use std::fmt::{self, Display, Formatter};
 
 /// The number of words of a table.
-pub const WORDS: usize = 968;
+pub const WORDS: usize = 1032;
 
 /// The answer to a request that is not refused.
 #[derive(Clone, Copy, Debug, PartialEq, Eq)]
@@ -104,7 +126,7 @@ pub struct Reply {
 #[derive(Clone, Copy, Debug, PartialEq, Eq)]
 #[non_exhaustive]
 pub enum Refusal {
-    /// 12: the table has not 968 words.
+    /// 12: the table has not 1,032 words.
     WrongLength,
     /// 13: the table is not sound.
     Unsound,
@@ -122,6 +144,8 @@ pub enum Refusal {
     BadValue,
     /// 20: direct juniors lead from a role through another back to it.
     Cycle,
+    /// 21: the bound of a separation set is below 2 or above the number of its roles, and not both are 0.
+    BadPair,
     /// A refusal that this crate does not know.
     Other(OtherRefusal),
 }
@@ -152,6 +176,7 @@ impl Refusal {
             18 => Refusal::BadListLength,
             19 => Refusal::BadValue,
             20 => Refusal::Cycle,
+            21 => Refusal::BadPair,
             _ => Refusal::Other(OtherRefusal(number)),
         })
     }
@@ -164,7 +189,7 @@ impl Refusal {
     /// The number and the reason.
     fn row(self) -> (u64, &'static str) {
         match self {
-            Refusal::WrongLength => (12, "the table has not 968 words"),
+            Refusal::WrongLength => (12, "the table has not 1,032 words"),
             Refusal::Unsound => (13, "the table is not sound"),
             Refusal::NoImage => (14, "the table is the image of no machine state"),
             Refusal::BadCode => (15, "there is no request of this code"),
@@ -173,6 +198,7 @@ impl Refusal {
             Refusal::BadListLength => (18, "a set-up list has not its length"),
             Refusal::BadValue => (19, "a set-up value is out of range"),
             Refusal::Cycle => (20, "direct juniors lead from a role through another back to it"),
+            Refusal::BadPair => (21, "the bound of the set is below 2 or above the number of its roles"),
             Refusal::Other(OtherRefusal(number)) => (number, "the reason is not known"),
         }
     }
@@ -257,7 +283,8 @@ pub fn set_up_labels(table: &mut [u64], clearances: &[u8], labels: &[u8]) -> Res
 /// A role request.
 ///
 /// # Errors
-/// [`Refusal::WrongLength`], [`Refusal::Unsound`], [`Refusal::BadArgument`], [`Refusal::NoPermission`].
+/// [`Refusal::WrongLength`], [`Refusal::Unsound`], [`Refusal::BadArgument`], [`Refusal::NoPermission`],
+/// [`Refusal::BadPair`].
 ///
 /// ```
 /// use sheetguard::{role_request, set_up_roles, Answer, Refusal, RoleRequest, WORDS};
@@ -313,7 +340,8 @@ pub fn label_request(table: &mut [u64], request: LabelRequest) -> Result<Reply, 
     Ok(Reply { answer, spent })
 }
 
-/// Whether two tables have the same openings and the same effective permissions of each session.
+/// Whether two tables have the same openings and the same effective permissions of each session. Separation sets are not
+/// looked at.
 ///
 /// # Errors
 /// [`Refusal::WrongLength`] and [`Refusal::Unsound`], for the first table and then for the second.

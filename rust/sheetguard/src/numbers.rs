@@ -1,4 +1,4 @@
-//! The guard's calls as the C header has them, on slices and with the scope's numbers: 1 yes, 0 no, 12 to 20 a refusal;
+//! The guard's calls as the C header has them, on slices and with the scope's numbers: 1 yes, 0 no, 12 to 21 a refusal;
 //! how two labels stand is 0 equal, 1 above, 2 below or 3 apart.
 //!
 //! Any slice and any number may be passed; nothing here panics.

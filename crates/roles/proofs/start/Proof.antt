@@ -5,11 +5,12 @@ use mathlib.Core.Path.{refl, ap, _∙_}
 use native.Mathlib.Numerals.{add-one}
 use native.Mathlib.Omega.{arith}
 use lib.ListN.{set, length-set}
-use borrow.Author.Tests.{eq-eqb, ne-eqb}
+use borrow.Author.Tests.{eq-eqb, ne-eqb, not-true, not-false}
 use Rattle.bits.proofs.Truth.{confirmed, refuted, and-intro, false-and, and-false}
 use Rattle.table.specs.Reading.{ownerAt, state}
 use Rattle.table.proofs.Answers.{all-authorised}
 use Rattle.table.proofs.Encode.{encode-state, write-owner, write-active}
+use Rattle.sound.proofs.Sets.{dynamic-told}
 use Rattle.roles.specs.Roles.{changed}
 use Rattle.roles.specs.Guard.{allowedSound}
 use Rattle.roles.proofs.Serving.{serve-yes, serve-no}
@@ -28,20 +29,31 @@ returns-2 c =
     let a = start .args in
     let p = start .pre in
     serve-no
-    (and-false _ (refuted (c .before .subset .ensures ∙ all-authorised (a .t .now) (a .u) (a .roles) _ (p .whole) (p .ranged .1) (found .authorised-roles .ensures)) (c .if2 .taken)))
+    (and-false _ (false-and _ (refuted (c .before .subset .ensures ∙ all-authorised (a .t .now) (a .u) (a .roles) _ (p .whole) (p .ranged .1) (found .authorised-roles .ensures)) (c .if2 .taken))))
     refl
 
 returns-3 : tie.Need-returns-3
-unfolding allowedSound changed
+unfolding allowedSound
 returns-3 c =
-    let found = c .before .before in
+    let start = c .before .before .before .before .before .before .before .before .before .before in
+    serve-no
+    (and-false _ (and-false _ (dynamic-told _ (start .pre .whole) (start .args .roles) refl (c .before .dynamic-fit .ensures) ∙ not-true _ (c .if3 .taken))))
+    refl
+
+returns-4 : tie.Need-returns-4
+unfolding allowedSound changed
+returns-4 c =
+    let asked = c .before .before .before in
+    let found = asked .before .before in
     let idle = found .before .before in
     let start = idle .before .before .before in
     let a = start .args in
     let p = start .pre in
     serve-yes
     (and-intro (eq-eqb _ 0 (idle .if1 .left))
-    (confirmed (c .before .subset .ensures ∙ all-authorised (a .t .now) (a .u) (a .roles) _ (p .whole) (p .ranged .1) (found .authorised-roles .ensures)) (c .if2 .left)))
+    (and-intro
+    (confirmed (asked .before .subset .ensures ∙ all-authorised (a .t .now) (a .u) (a .roles) _ (p .whole) (p .ranged .1) (found .authorised-roles .ensures)) (asked .if2 .left))
+    (dynamic-told _ (p .whole) (a .roles) refl (c .before .dynamic-fit .ensures) ∙ not-false _ (c .if3 .left))))
     (write-active _
     (ap (λ (w : ℕ). set (a .t .now) (ownerAt (a .s)) w) (add-one (a .u))
     ∙ write-owner (state (a .t .now)) (encode-state (a .t .now) (p .whole)) (a .s) _ (p .ranged .0))
@@ -51,20 +63,23 @@ pub start-spec : {M : Type 1} → statement M
 start-spec =
     tie.close
     (tie.spec
-    (search needs)
-    (search needs)
-    (search needs)
+    (λ c. search needs)
+    (λ c. search needs)
+    (λ c. search needs)
     returns
-    (search needs)
-    (search needs)
-    (search needs)
+    (λ c κs. search needs)
+    (λ c κs. search needs)
+    (λ c. search needs)
     returns-2
-    (search needs)
-    (search needs)
-    (search needs)
-    (search needs)
-    (search needs)
-    (search needs)
+    (λ c κs. search needs)
+    (λ c. search needs)
+    returns-3
+    (λ c. search needs)
+    (λ c. search needs)
+    (λ c. search needs)
+    (λ c. search needs)
+    (λ c. search needs)
+    (λ c. search needs)
     (λ c. simp length-set (omega arith))
-    (search needs)
-    returns-3)
+    (λ c. search needs)
+    returns-4)

@@ -33,8 +33,10 @@ grants-fit-spec =
     (tie.spec
     Inv-loop
     μ-loop
+    (λ c. search needs)
+    (λ c. search needs)
     (λ c κs. search needs)
-    (λ c. sym (none-fits _ _ (sym (c .before .none-granted .ensures) ∙ c .if1 .taken)))
+    (λ c. sym (none-fits _ _ (sym (c .before .words-empty .ensures) ∙ c .if1 .taken)))
     (λ c. passed-none)
     (λ c κs. search needs)
     returns-2

@@ -3,7 +3,6 @@ use borrow.Author.Needs.{needs}
 use Prim.Native.Nat.{_-_}
 use mathlib.Core.Path.{_≡_, sym, _∙_}
 use mathlib.Core.Bool.{true}
-use native.Mathlib.Omega.{arith}
 use Rattle.bits.proofs.Truth.{confirmed, refuted}
 use Rattle.bits.proofs.Below.{widen, Passed, passed-none, passed-more, passed-all}
 use Rattle.table.specs.Reading.{state}
@@ -86,11 +85,12 @@ returns-5 c =
 
 returns-6 : tie.Need-returns-6 Inv-loop μ-loop Inv-loop2 μ-loop2 Inv-loop4 μ-loop4 Inv-loop3 μ-loop3 Inv-test μ-test
 returns-6 c =
-    let modes = c .before .before in
+    let sessions = c .before in
+    let modes = sessions .before .before in
     let roles = modes .before .before in
     let entry = roles .before .before .before in
     let all-modes = passed-all (modes .before .loop2 .inv) (modes .loop2-test .left) in
-    found-sound _ (omega arith)
+    found-sound _ (entry .if1 .left) (c .is-separated .ensures)
     (items-sound _ (record {
       granted-word = λ x o. entry .before .shared-slice-known .given _ .fits;
       active-word = λ s. entry .before .shared-slice-known .given _ .fits;
@@ -98,7 +98,7 @@ returns-6 c =
     })
     (passed-all (roles .before .loop .inv) (roles .loop-test .left))
     (λ x o hx ho. each-grant _ x (all-modes x hx) o ho)
-    (passed-all (c .before .loop3 .inv) (c .loop3-test .left)))
+    (passed-all (sessions .before .loop3 .inv) (sessions .loop3-test .left)))
 
 pub is-sound-spec : {M : Type 1} → statement M
 is-sound-spec =
@@ -140,6 +140,7 @@ is-sound-spec =
     (λ c. search needs)
     (λ c. search needs)
     loop3-again
+    (λ c κs. search needs)
     returns-2
     returns-3
     returns-4

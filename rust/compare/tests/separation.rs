@@ -1,0 +1,83 @@
+//! What separation sets do to the requests of the random cases: everything that they can, each often.
+
+use compare::{damaged, requests, Case, Layer, Random, Run, Step, PLAIN, WORDS};
+use std::collections::BTreeMap;
+
+const _: () = assert!(!reference::WRONG, "tests are built without a wrong turn");
+
+/// Where the pairs of mask and bound begin, and those of the dynamic sets.
+const STATIC: usize = 968;
+const DYNAMIC: usize = 1000;
+
+/// The answer to a step on the table without its sets.
+fn without_sets(table: &[u64], step: &Step) -> Option<u64> {
+    let mut run = Run::default();
+    run.table[..STATIC].copy_from_slice(&table[..STATIC]);
+    run.step(&PLAIN, step).map(|reply| reply.answers[0])
+}
+
+/// What the sets did to a request that is answered otherwise without them.
+fn kind(table: &[u64], step: &Step, answer: u64) -> &'static str {
+    match (step, answer) {
+        (Step::Role([3, ..]), 0) => "start, no",
+        (Step::Role([5, ..]), 0) => "activate, no",
+        (Step::Role([7, ..]), 0) => "assign, no",
+        (Step::Label(_), 14) => "label request, 14",
+        (_, 13) => fault(table),
+        _ => panic!("{step:?} is answered {answer} for a set"),
+    }
+}
+
+/// What is wrong with the sets of a table that is sound without them.
+fn fault(table: &[u64]) -> &'static str {
+    let is_bad = |pair: &[u64]| pair != [0, 0] && !(2..=pair[0].count_ones().into()).contains(&pair[1]);
+    if table[STATIC..].chunks(2).any(is_bad) {
+        return "13, a pair of error 21";
+    }
+    let mut rest = table.to_vec();
+    rest[DYNAMIC..].fill(0);
+    if is_sound(&rest) {
+        return "13, a dynamic set";
+    }
+    let idle = (0..64).filter(|user| !table[648..680].contains(&(user + 1)));
+    idle.for_each(|user| rest[72 + user as usize] = 0);
+    match is_sound(&rest) {
+        true => "13, a static set and a user without a session",
+        false => "13, a static set and a user with a session",
+    }
+}
+
+/// Whether a table is sound, by a request that is refused straight after the test.
+fn is_sound(table: &[u64]) -> bool {
+    (PLAIN.role_request)(&mut table.to_vec(), 0, 0, 0, 0) == 15
+}
+
+/// Counts what the sets did to the requests of a case, but for those that replace a set.
+fn count(case: &Case, counts: &mut BTreeMap<&'static str, u64>) {
+    let mut run = Run::default();
+    for step in &case.0 {
+        let before = run.table.clone();
+        let Some(reply) = run.step(&PLAIN, step) else { continue };
+        let answer = reply.answers[0];
+        let counted = match step {
+            Step::Role([code, ..]) => ![11, 12].contains(code),
+            Step::Label(_) => true,
+            _ => false,
+        };
+        if counted && before.len() == WORDS && without_sets(&before, step) != Some(answer) {
+            *counts.entry(kind(&before, step, answer)).or_default() += 1;
+        }
+    }
+}
+
+#[test]
+fn every_kind() {
+    let mut random = Random::new(9);
+    let mut counts = BTreeMap::new();
+    for _ in 0..500 {
+        count(&requests(&mut random, Layer::Roles), &mut counts);
+        count(&damaged(&mut random), &mut counts);
+    }
+    println!("{counts:?}");
+    assert!(counts.len() == 8 && counts.values().all(|count| *count >= 20), "{counts:?}");
+}
