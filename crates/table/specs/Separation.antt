@@ -44,6 +44,7 @@ dynamicHolds S m b = all 32 (λ s. fewer m b (has (S .active s)))
 
 -- ---- all sets
 
+-- every static set holds, and every dynamic one
 abbrev pub staticSetsHold : State → Bool
 staticSetsHold S = all 16 (λ n. staticHolds S (mask S n) (bound S n))
 
@@ -58,6 +59,7 @@ pairsGood S = all 32 (λ n. not (badPair (mask S n) (bound S n)))
 abbrev pub setsEmpty : State → Bool
 setsEmpty S = all 64 (λ i. eqb (S .sets i) 0)
 
+-- all sets hold, and no pair is one of error 21
 unfoldable pub separated : State → Bool
 separated S = staticSetsHold S and dynamicSetsHold S and pairsGood S
 

@@ -52,7 +52,7 @@ rolesSound S =
 unfoldable pub sound : State → Bool
 sound S = rolesSound S and separated S
 
--- the same, as plain facts of the roles, modes, objects and sessions that there are
+-- the same, as plain facts of the users, roles, modes, objects and sessions that there are
 pub record Sound (S : State) : Type 0 where
   pub is-reflexive : (r : ℕ) → r < 64 → senior S r r ≡ true
   pub is-transitive : (r q p : ℕ) → r < 64 → q < 64 → p < 64
