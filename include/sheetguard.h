@@ -38,13 +38,13 @@ extern "C" {
 #endif
 
 /* The number of words of a table. */
-#define SHEETGUARD_WORDS 1032
+#define SHEETGUARD_WORDS 1096
 
 /* The answers, but for the four of sheetguard_compare_labels. */
 enum {
     SHEETGUARD_NO = 0,
     SHEETGUARD_YES = 1,
-    SHEETGUARD_WRONG_LENGTH = 12,    /* the table has not 1,032 words */
+    SHEETGUARD_WRONG_LENGTH = 12,    /* the table has not 1,096 words */
     SHEETGUARD_UNSOUND = 13,         /* the table is not sound */
     SHEETGUARD_NO_IMAGE = 14,        /* a label request on a sound table that no label set-up leads to */
     SHEETGUARD_BAD_CODE = 15,        /* the code is not one of the requests */
@@ -71,6 +71,9 @@ enum {
  * sets, which look at the authorised roles of every user, with a session or without, and 16 dynamic ones, which look at the
  * active roles of every session, without their juniors. Who edits may not release: a static set of the two roles with
  * bound 2.
+ *
+ * Seniority comes from direct juniors: a role is senior to its direct juniors, to theirs, and so on. The set-up gives the
+ * direct juniors, and two requests change them while the table is in use.
  */
 enum {
     SHEETGUARD_OPEN = 1,         /* session, object, mode: yes when the pair is effective for the session */
@@ -89,7 +92,12 @@ enum {
     SHEETGUARD_STATIC_SET = 11,  /* set 0 to 15, roles (a set, any word), bound (any word): yes when every user has fewer of
                                     the roles than the bound; they replace what the set was. Roles 0 with bound 0 empty
                                     it, which is always yes */
-    SHEETGUARD_DYNAMIC_SET = 12  /* the same for a dynamic set and the active roles of every session */
+    SHEETGUARD_DYNAMIC_SET = 12, /* the same for a dynamic set and the active roles of every session */
+    SHEETGUARD_LINK = 13,        /* role, role: yes when they differ, the second is not senior to the first and no static
+                                    set breaks; the second is then a direct junior of the first. Yes also where it is a
+                                    junior already, direct or not */
+    SHEETGUARD_UNLINK = 14       /* role, role: yes when the second is a direct junior of the first and the table without
+                                    this link is sound; it then is none, and may be a junior through another role still */
 };
 
 /*
@@ -132,8 +140,9 @@ uint64_t sheetguard_role_request(uint64_t *table, size_t words,
 
 /*
  * Tables: only read.
- * Whether two tables have the same openings and the same effective permissions of each session; separation sets are not
- * looked at. Answers YES or NO, or refusal 12 or 13 for the first table, then for the second. The two may be the same table.
+ * Whether two tables have the same openings and the same effective permissions of each session; separation sets and direct
+ * juniors are not looked at. Answers YES or NO, or refusal 12 or 13 for the first table, then for the second. The two may be
+ * the same table.
  */
 uint64_t sheetguard_alike(const uint64_t *first, size_t n_first,
                           const uint64_t *second, size_t n_second);

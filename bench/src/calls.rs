@@ -59,6 +59,16 @@ fn role_on(table: &[u64], name: &'static str, code: u64, answer: u64) -> Call {
     Call::new(name, table, role_ask(request))
 }
 
+/// A link that is answered no for what users and sessions have, and not for how the two roles stand: the first whose junior is
+/// not above its senior, or of those that are there the first that is not taken away.
+fn kept_link(table: &[u64], name: &'static str, code: u64) -> Call {
+    let has = |at: u64, role: u64| table[at as usize] >> role & 1 == 1;
+    let counts = |r, q| if code == 13 { !has(q, r) } else { has(1032 + r, q) };
+    let pairs = (0..64 * 64).map(|number| (number % 64, number / 64)).filter(|(r, q)| counts(*r, *q));
+    let mut links = pairs.map(|(r, q)| Call::new(name, table, role_ask([code, r, q, 0])));
+    links.find(|call| call.answer == 0).expect("the table has such a link")
+}
+
 /// A label request on the label image; the answer with spent.
 fn label(name: &'static str, code: u64, answer: u64, spent: u64) -> Call {
     let table = tables::labels();
@@ -108,6 +118,9 @@ pub fn rows() -> Vec<Call> {
         role("role assign", 7, 1),
         role("role deassign", 8, 1),
         role("role revoke", 10, 1),
+        role("role link", 13, 1),
+        role("role unlink, yes", 14, 1),
+        kept_link(&tables::plant(), "role unlink, no", 14),
         label("label open", 1, 1, 1),
         answered("label start, yes", &tables::labels(), label_start(0), 101),
         answered("label start, no", &tables::labels(), label_start(1), 1),
@@ -144,5 +157,8 @@ fn rows_with_sets() -> Vec<Call> {
         row("role assign, no, 32 sets", 7, 0),
         answered("role static set, 32 sets", &table, static_set, 1),
         answered("role dynamic set, 32 sets", &table, dynamic_set, 1),
+        row("role link, yes, 32 sets", 13, 1),
+        kept_link(&table, "role link, no, 32 sets", 13),
+        row("role unlink, yes, 32 sets", 14, 1),
     ]
 }

@@ -1,8 +1,9 @@
-//! The twelve role requests on a table known to be sound, and the role set-up.
+//! The fourteen role requests on a table known to be sound, and the role set-up.
 
 use crate::table::{
-    all_hold, are_empty, authorised, covered, has, holds, is_bad_pair, is_effective, is_subset, openings_fit, Table,
-    ACTIVE, ASSIGNED, DYNAMIC, GRANTED, HOLDS, OWNER, PERMITTED, STATIC,
+    all_hold, are_empty, authorised, closure, covered, has, holds, is_bad_pair, is_effective, is_subset, openings_fit,
+    session_fits, static_fit, Members, Table, ACTIVE, ASSIGNED, DIRECT, DYNAMIC, GRANTED, HOLDS, OWNER, PERMITTED,
+    STATIC,
 };
 use crate::{yes_or_no, YES};
 
@@ -34,6 +35,8 @@ pub fn serve(t: &mut Table, code: u64, a: u64, b: u64, c: u64) -> Result<u64, u6
         10 => within([63, 7, 63]).and_then(|[r, x, o]| revoke(t, r, x, o)),
         11 => within([15, u64::MAX, u64::MAX]).and_then(|[set, _, _]| separate(t, STATIC + 2 * set, b, c)),
         12 => within([15, u64::MAX, u64::MAX]).and_then(|[set, _, _]| separate(t, DYNAMIC + 2 * set, b, c)),
+        13 => within([63, 63, 0]).map(|[r, q, _]| link(t, r, q)),
+        14 => within([63, 63, 0]).map(|[r, q, _]| unlink(t, r, q)),
         _ => Err(15),
     };
     yes.map(yes_or_no)
@@ -94,7 +97,7 @@ fn drop_role(t: &mut Table, s: usize, r: usize) -> bool {
 
 /// Whether active roles fit the dynamic sets.
 fn dynamic_fit(t: &Table, roles: u64) -> bool {
-    let sets = &t[DYNAMIC..];
+    let sets = &t[DYNAMIC..DIRECT];
     are_empty(sets) || all_hold(sets, roles)
 }
 
@@ -140,21 +143,49 @@ fn separate(t: &mut Table, at: usize, mask: u64, bound: u64) -> Result<bool, u64
     Ok(yes)
 }
 
-/// The closure of the direct juniors, the permissions and nothing else; refusal 20.
-pub fn set_up(t: &mut Table, juniors: &[u64; 64], permissions: &[u64; 8]) -> Result<u64, u64> {
-    let mut rows: [u64; 64] = std::array::from_fn(|r| juniors[r] | 1 << r);
-    for k in 0..64 {
-        let below = rows[k];
-        for row in rows.iter_mut().filter(|row| has(**row, k)) {
-            *row |= below;
-        }
+/// Puts role r above q: r and every role above it get all that q has. Where q has r, which is where it is r or above it, the
+/// answer is no; authorised roles only grow, so that nothing else can break but static sets.
+fn link(t: &mut Table, r: usize, q: usize) -> bool {
+    if has(t[q], r) {
+        return false;
     }
-    let cyclic = |r: usize| crate::table::Members(rows[r] & !(1 << r)).any(|q| has(rows[q], r));
-    if (0..64).any(cyclic) {
+    let rows = std::array::from_fn(|a| if has(t[a], r) { t[a] | t[q] } else { t[a] });
+    relink(t, DIRECT + r, t[DIRECT + r] | 1 << q, &rows, static_fit)
+}
+
+/// Takes q from the direct juniors of r. Authorised roles only shrink, so that nothing can break but what sessions have.
+fn unlink(t: &mut Table, r: usize, q: usize) -> bool {
+    if !has(t[DIRECT + r], q) {
+        return false;
+    }
+    let mut direct: [u64; 64] = std::array::from_fn(|a| t[DIRECT + a]);
+    direct[r] &= !(1 << q);
+    relink(t, DIRECT + r, direct[r], &closure(&direct), |t| (0..32).all(|s| session_fits(t, s)))
+}
+
+/// Writes one word of direct juniors and all juniors, and puts them back where the table does not fit with them.
+fn relink(t: &mut Table, at: usize, direct: u64, rows: &[u64; 64], fits: impl Fn(&Table) -> bool) -> bool {
+    let (old_direct, old_rows): (u64, [u64; 64]) = (t[at], std::array::from_fn(|r| t[r]));
+    t[at] = direct;
+    t[..64].copy_from_slice(rows);
+    let yes = fits(t);
+    if !yes {
+        t[at] = old_direct;
+        t[..64].copy_from_slice(&old_rows);
+    }
+    yes
+}
+
+/// The direct juniors without own bits, their closure, the permissions and nothing else; refusal 20.
+pub fn set_up(t: &mut Table, juniors: &[u64; 64], permissions: &[u64; 8]) -> Result<u64, u64> {
+    let direct: [u64; 64] = std::array::from_fn(|r| juniors[r] & !(1 << r));
+    let rows = closure(&direct);
+    if (0..64).any(|r| Members(direct[r]).any(|q| has(rows[q], r))) {
         return Err(20);
     }
     t.fill(0);
     t[..64].copy_from_slice(&rows);
     t[PERMITTED..ASSIGNED].copy_from_slice(permissions);
+    t[DIRECT..].copy_from_slice(&direct);
     Ok(YES)
 }

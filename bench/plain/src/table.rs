@@ -1,4 +1,4 @@
-//! The table, authorised roles, effective permissions, separation sets and soundness.
+//! The table, authorised roles, effective permissions, separation sets, seniority and soundness.
 
 pub const PERMITTED: usize = 64;
 pub const ASSIGNED: usize = 72;
@@ -8,7 +8,8 @@ pub const ACTIVE: usize = 680;
 pub const HOLDS: usize = 712;
 pub const STATIC: usize = 968;
 pub const DYNAMIC: usize = 1000;
-pub const WORDS: usize = 1032;
+pub const DIRECT: usize = 1032;
+pub const WORDS: usize = 1096;
 
 pub type Table = [u64; WORDS];
 
@@ -75,11 +76,13 @@ pub fn openings_fit(t: &Table, s: usize) -> bool {
     (0..8).all(|x| Members(t[HOLDS + 8 * s + x]).all(|o| t[GRANTED + 64 * x + o] & roles != 0))
 }
 
-/// Whether role r is its own junior, and every other junior is not senior to it and has no junior that r has not.
+/// Whether the juniors of role r are r and all that its direct juniors have, none of whom has r. Of all 64 roles together
+/// this says that no role is its own direct junior, that the juniors are the closure of the direct ones, and that no two
+/// roles are juniors of each other.
 #[inline]
 fn role_fits(t: &Table, r: usize) -> bool {
-    let below = t[r];
-    has(below, r) && Members(below & !(1 << r)).all(|q| !has(t[q], r) && is_subset(t[q], below))
+    let below = covered(t, t[DIRECT + r]);
+    !has(below, r) && t[r] == below | 1 << r
 }
 
 /// Whether nothing is granted but permissions.
@@ -94,7 +97,7 @@ fn grants_fit(t: &Table, x: usize) -> bool {
 
 /// Whether the active roles of a session are authorised and its openings effective.
 #[inline]
-fn session_fits(t: &Table, s: usize) -> bool {
+pub fn session_fits(t: &Table, s: usize) -> bool {
     let active = t[ACTIVE + s];
     let roles_fit = match t[OWNER + s] {
         0 => active == 0,
@@ -134,13 +137,32 @@ pub fn are_empty(pairs: &[u64]) -> bool {
     pairs.iter().fold(0, |all, word| all | word) == 0
 }
 
+/// Whether every static set holds of each user's roles.
+pub fn static_fit(t: &Table) -> bool {
+    let sets = &t[STATIC..DYNAMIC];
+    are_empty(sets) || (0..64).all(|u| all_hold(sets, authorised(t, u)))
+}
+
 /// Whether no pair is one of refusal 21, and every set holds of each user's or each session's roles.
 #[inline]
 fn sets_fit(t: &Table) -> bool {
-    are_empty(&t[STATIC..])
-        || t[STATIC..].chunks_exact(2).all(|pair| !is_bad_pair(pair[0], pair[1]))
-            && (0..64).all(|u| all_hold(&t[STATIC..DYNAMIC], authorised(t, u)))
-            && (0..32).all(|s| all_hold(&t[DYNAMIC..], t[ACTIVE + s]))
+    let sets = &t[STATIC..DIRECT];
+    are_empty(sets)
+        || sets.chunks_exact(2).all(|pair| !is_bad_pair(pair[0], pair[1]))
+            && static_fit(t)
+            && (0..32).all(|s| all_hold(&t[DYNAMIC..DIRECT], t[ACTIVE + s]))
+}
+
+/// All juniors of each role, and the role itself, by its direct juniors.
+pub fn closure(direct: &[u64; 64]) -> [u64; 64] {
+    let mut rows: [u64; 64] = std::array::from_fn(|r| direct[r] | 1 << r);
+    for k in 0..64 {
+        let below = rows[k];
+        for row in rows.iter_mut().filter(|row| has(**row, k)) {
+            *row |= below;
+        }
+    }
+    rows
 }
 
 /// Whether the table is sound.

@@ -17,7 +17,7 @@ use Rattle.table.specs.Reading.{state}
 use Rattle.table.specs.Table.{tableLength, isTable}
 use Rattle.table.specs.Answers.{effectivePermissions}
 use Rattle.table.proofs.Table.{in-table}
-use Rattle.table.proofs.Tabulate.{getD-tabulate}
+use Rattle.bits.proofs.Tabulate.{getD-tabulate}
 use Rattle.table.proofs.Answers.{effective-permissions-are}
 use Rattle.alike.specs.Likeness.{sameSession, sameState, likeness, Alike}
 

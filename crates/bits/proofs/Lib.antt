@@ -5,3 +5,4 @@ pub mod Word
 pub mod Members
 pub mod Walk
 pub mod Counting
+pub mod Tabulate

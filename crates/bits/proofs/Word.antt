@@ -11,7 +11,7 @@ use lib.Pow.{pow-pos, pow-mono, mod-mod-pow, field, low, high, mod-pow-add, pow-
 use borrow.Author.Tests.{eq-eqb, ne-eqb, eqb-true}
 use Rattle.bits.specs.Words.{_and_, _or_, has, bit, pack, _with_}
 use Rattle.bits.specs.Sets.{_without_, join}
-use Rattle.bits.proofs.Truth.{clash, by-truth, is-false, and-intro, and-left, and-right, or-left, or-right, or-elim, or-comm, and-comm, false-or, true-and}
+use Rattle.bits.proofs.Truth.{clash, by-truth, is-false, and-intro, and-left, and-right, or-left, or-right, or-elim, or-comm, and-comm, false-or, true-and, not-intro}
 use Rattle.bits.proofs.Below.{below-suc}
 
 -- ---- one digit
@@ -231,6 +231,13 @@ without-absent w i h e =
     ∙ by-truth (eqb j i)
     (λ p. is-false (λ z. clash (and-left (not (eqb j i)) (has w j) z) (ap not p)) ∙ sym (ap (λ (k : ℕ). has w k) (eqb-true j i p) ∙ e))
     (λ p. true-and (has w j) (ap not p)))
+
+pub without-with : (w i : ℕ) → (w without i) with i ≡ w with i
+unfolding _with_
+without-with w i =
+    pack-cong 64 (λ j h.
+    by-truth (eqb j i) (λ e. or-left _ e ∙ sym (or-left _ e))
+    (λ e. ap (λ (b : Bool). eqb j i or b) (has-without w i j h ∙ true-and _ (not-intro e))))
 
 pub without-none : (i : ℕ) → 0 without i ≡ 0
 without-none i = without-absent 0 i (pow-pos 64) (has-zero i)

@@ -5,9 +5,7 @@ infixl 55 _without_
 -- f holds of some number below n: asked from 0 up, and no further than the first of which it does
 unfoldable pub any : ℕ → (ℕ → Bool) → Bool
 any zero f = false
-any (suc n) f =
-    let last = f n in
-    any n f or last
+any (suc n) f = let last = f n in any n f or last
 
 -- f holds of every member of w; an empty word is not gone through
 unfoldable pub each : ℕ → (ℕ → Bool) → Bool

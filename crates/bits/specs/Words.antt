@@ -39,9 +39,7 @@ has w i = eqb (w / 2 ^ i % 2) 1
 -- f holds of every number below n: asked from 0 up, and no further than the first of which it does not
 unfoldable pub all : ℕ → (ℕ → Bool) → Bool
 all zero f = true
-all (suc n) f =
-    let last = f n in
-    all n f and last
+all (suc n) f = let last = f n in all n f and last
 
 -- every member of a is one of b
 unfoldable pub subset : ℕ → ℕ → Bool
@@ -60,3 +58,8 @@ pack (suc n) f = bit (f n) * 2 ^ n + pack n f
 -- the word w with the member i; a number past 63 changes nothing
 unfoldable pub _with_ : ℕ → ℕ → ℕ
 _with_ w i = pack 64 (λ j. eqb j i or has w j)
+
+-- f 0, f 1, .. , f (n - 1)
+unfoldable pub tabulate : {A : Type 0} → ℕ → (ℕ → A) → List A
+tabulate zero f = []
+tabulate (suc n) f = f 0 ∷ tabulate n (λ i. f (suc i))

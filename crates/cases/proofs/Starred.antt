@@ -4,22 +4,24 @@ use Prim.Native.Nat.{ℕ}
 use mathlib.Core.Path.{_≡_, refl, sym, ap, subst, _∙_}
 use mathlib.Core.Bool.{true}
 use mathlib.Core.List.{List, [], _∷_}
-use Rattle.bits.specs.Words.{_and_, _or_, _implies_, if_then_else_, upd, has, all, subset, bit, pack, _with_}
+use lib.ListN.{getD}
+use Rattle.bits.specs.Words.{_and_, _or_, _implies_, if_then_else_, upd, has, all, subset, bit, pack, _with_, tabulate}
 use Rattle.bits.specs.Sets.{each, any, some, overlap, _without_, join}
 use Rattle.table.specs.State.{State}
 use Rattle.table.specs.Authority.{covers, authorised, mayActivate, effective}
 use Rattle.table.specs.Separation.{emptyPair, fewer}
 use Rattle.table.specs.Sound.{Sound}
-use Rattle.table.specs.Table.{tabulate, encode}
+use Rattle.table.specs.Changes.{setSeniority}
+use Rattle.table.specs.Table.{encode}
 use Rattle.table.proofs.Table.{is-table}
-use Rattle.table.proofs.Tabulate.{length-tabulate}
+use Rattle.bits.proofs.Tabulate.{length-tabulate}
 use Rattle.sound.specs.Answers.{isSound, openingsFit, sessionsFit, pairFits}
 use Rattle.roles.specs.Request.{Outcome, within}
 use Rattle.roles.specs.Roles.{isCode, limits, inRange, carriesBadPair, decode, known, changed}
 use Rattle.roles.specs.Guard.{allowedSound}
 use Rattle.roles.proofs.Playing.{stay, move, moved}
 use Rattle.roles.proofs.Requests.{sound-encode}
-use Rattle.setup.specs.Closure.{via, through, closure, acyclic}
+use Rattle.closure.specs.Closure.{via, through, closure, acyclic}
 use Rattle.setup.specs.SetUp.{fresh, roleSetUp}
 use Rattle.setup.proofs.Claims.{set-up-sound}
 use Rattle.setup.proofs.SetUp.{set-up-accepted}
@@ -40,6 +42,10 @@ no-cycle : acyclic rows ≡ true
 unfolding acyclic all each has _and_ _or_ _implies_
 no-cycle = refl
 
+-- the state after it, with these rows
+abbrev begun : List ℕ → State
+begun l = setSeniority (fresh direct permissions) (λ r. getD l r 0) (fresh direct permissions .direct)
+
 -- ---- every row, worked out on states
 
 abbrev Shows : State → List Row → Type 0
@@ -56,21 +62,24 @@ shows-met (asked q n ∷ rest) S f h =
 shows-met (compared a b w ∷ rest) S f h = (h .0, shows-met rest S f (h .1))
 shows-met (holds b ∷ rest) S f h = (h .0, shows-met rest S f (h .1))
 
-shown : Shows (fresh rows permissions) starred
+shown : Shows (begun rows) starred
 unfolding starred permissions fresh move stay isCode limits inRange carriesBadPair within decode known changed allowedSound openingsFit sessionsFit pairFits covers authorised mayActivate effective fewer emptyPair upd has all any each some subset overlap bit pack _with_ _without_ if_then_else_ _and_ _or_ _implies_ class brands stands equalOrAbove
 shown = (refl, (refl, (refl, (refl, (refl, (refl, (refl, (refl, (refl, (refl, (refl, (refl, (refl, (refl, (refl, (refl, (refl, (refl, (refl, (refl, (refl, (refl, (refl, (refl, tt))))))))))))))))))))))))
 
 -- ---- on the table after the set-up
 
+begins : fresh direct permissions ≡ begun rows
+unfolding fresh
+begins = ap begun closed
+
 pub starred-cases : StarredCases
 unfolding direct permissions
 starred-cases t e =
     let a = set-up-accepted t direct permissions (is-table t e) (length-tabulate 64 _) refl (ap acyclic closed ∙ no-cycle) in
-    let z : roleSetUp t direct permissions .state ≡ encode (fresh rows permissions) =
-    ap (λ (o : Outcome (List ℕ)). o .state) a ∙ ap (λ (l : List ℕ). encode (fresh l permissions)) closed in
+    let z : roleSetUp t direct permissions .state ≡ encode (begun rows) = ap (λ (o : Outcome (List ℕ)). o .state) a ∙ ap encode begins in
     let b = ap (λ (o : Outcome (List ℕ)). o .answer) a in
     record {
       accepted = b;
       met = subst (λ (l : List ℕ). Met l starred) (sym z)
-          (shows-met starred (fresh rows permissions) (sound-encode (fresh rows permissions) (sym (ap isSound z) ∙ set-up-sound t direct permissions b)) shown);
+          (shows-met starred (begun rows) (sound-encode (begun rows) (sym (ap isSound z) ∙ set-up-sound t direct permissions b)) shown);
     }

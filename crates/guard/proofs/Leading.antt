@@ -5,7 +5,8 @@ use mathlib.Core.List.{List, [], _∷_, _++_}
 use Prim.Native.Nat.{ℕ, zero, suc}
 use lib.ListN.{replicate}
 use Rattle.bits.proofs.Truth.{clash}
-use Rattle.table.specs.Table.{tableLength, tabulate}
+use Rattle.bits.specs.Words.{tabulate}
+use Rattle.table.specs.Table.{tableLength}
 use Rattle.ledger.specs.Step.{unguarded}
 use Rattle.transcript.specs.declared.Progress.{Progress}
 use Rattle.transcript.specs.Stream.{Standing, standing, started, after}

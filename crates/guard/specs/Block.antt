@@ -1,7 +1,7 @@
 -- What comes of a block of input, and of all of it. What a system call did with the bytes that it was given, or which it gave,
 -- no contract can say.
-use Rattle.bits.specs.Words.{ℕ, _≡_, Bool, true, List}
-use Rattle.table.specs.Table.{tableLength, tabulate}
+use Rattle.bits.specs.Words.{ℕ, _≡_, Bool, true, List, tabulate}
+use Rattle.table.specs.Table.{tableLength}
 use Rattle.ledger.specs.Step.{unguarded}
 use Rattle.transcript.specs.Stream.{Standing, after}
 use Rattle.transcript.specs.Claims.{begun}

@@ -17,6 +17,7 @@ use Rattle.table.specs.Sound.{Sound}
 use Rattle.table.specs.Reading.{state}
 use Rattle.table.proofs.Agree.{Agree}
 use Rattle.table.proofs.Encode.{shown, state-encode}
+use Rattle.table.proofs.Seniority.{linked-closure, linked-agree}
 use Rattle.table.proofs.State.{effective-elim}
 use Rattle.table.proofs.Sound.{sound-elim}
 use Rattle.table.proofs.Table.{table-length}
@@ -25,10 +26,11 @@ use Rattle.roles.proofs.Requests.{encode-sound, sound-encode}
 use Rattle.machine.specs.Machine.{Machine}
 use Rattle.image.specs.Image as image
 use Rattle.image.specs.Image.{above, clearedRoles, seatRoles, grantedRoles, permittedObjects}
-use Rattle.image.specs.Test.{labelOf, seatOf, machineOf, seniorityFits, permissionsFit, usersFit, objectsFit, levelsFit, isImage}
+use Rattle.image.specs.Test.{labelOf, seatOf, machineOf, linksFit, permissionsFit, usersFit, objectsFit, levelsFit, isImage}
 use Rattle.image.specs.Claims.{Ranged, SoundImage, ImageMeans}
 use Rattle.image.proofs.Reading.{label-below, label-cleared, label-granted, owner-of, seat-read, seat-back}
-use Rattle.image.proofs.Shown.{safe-sound, sound-safe, owner-is, active-is, granted-is, assigned-is}
+use Rattle.image.proofs.Rows.{linked}
+use Rattle.image.proofs.Shown.{shown-juniors, shown-direct, shown-linked, safe-sound, sound-safe, owner-is, active-is, granted-is, assigned-is}
 
 -- ---- soundness
 
@@ -42,16 +44,16 @@ module _ (S : State) (f : Sound S) (words : (x o : ℕ) → S .granted x o < 2 ^
   abbrev m : Machine
   m = machineOf S
 
-  seniority-fits : seniorityFits S ≡ true
+  links-fit : linksFit S ≡ true
   unfolding isImage
-  seniority-fits = and-left _ _ i
+  links-fit = and-left _ _ i
 
-  after-seniority : permissionsFit S and usersFit S and objectsFit S and levelsFit S and setsEmpty S ≡ true
+  after-links : permissionsFit S and usersFit S and objectsFit S and levelsFit S and setsEmpty S ≡ true
   unfolding isImage
-  after-seniority = and-right (seniorityFits S) _ i
+  after-links = and-right (linksFit S) _ i
 
   after-permissions : usersFit S and objectsFit S and levelsFit S and setsEmpty S ≡ true
-  after-permissions = and-right (permissionsFit S) _ after-seniority
+  after-permissions = and-right (permissionsFit S) _ after-links
 
   after-users : objectsFit S and levelsFit S and setsEmpty S ≡ true
   after-users = and-right (usersFit S) _ after-permissions
@@ -59,13 +61,20 @@ module _ (S : State) (f : Sound S) (words : (x o : ℕ) → S .granted x o < 2 ^
   after-objects : levelsFit S and setsEmpty S ≡ true
   after-objects = and-right (objectsFit S) _ after-users
 
+  direct-fit : (r : ℕ) → r < 64 → S .direct r ≡ linked r
+  unfolding linksFit
+  direct-fit r h = eqb-true _ _ (all-elim _ 64 links-fit r h)
+
+  -- the same links make the same seniority
   juniors-fit : (r : ℕ) → r < 64 → S .juniors r ≡ pack 64 (above r)
-  unfolding seniorityFits
-  juniors-fit r h = eqb-true _ _ (all-elim _ 64 seniority-fits r h)
+  juniors-fit r h =
+      linked-closure (f .is-linked) r h
+      ∙ sym (linked-closure (linked-agree (shown-linked m) (λ q l. refl) (λ q l. shown-direct m q ∙ sym (direct-fit q l))) r h)
+      ∙ shown-juniors m r h
 
   permitted-fit : (x : ℕ) → x < 8 → S .permitted x ≡ permittedObjects x
   unfolding permissionsFit
-  permitted-fit x h = eqb-true _ _ (all-elim _ 8 (and-left _ _ after-seniority) x h)
+  permitted-fit x h = eqb-true _ _ (all-elim _ 8 (and-left _ _ after-links) x h)
 
   assigned-fit : (u : ℕ) → u < 64 → S .assigned u ≡ clearedRoles (m .clearance u)
   unfolding usersFit
@@ -112,6 +121,7 @@ module _ (S : State) (f : Sound S) (words : (x o : ℕ) → S .granted x o < 2 ^
     active = active-fit;
     holds = holds-fit;
     sets = λ i h. eqb-true _ 0 (all-elim _ 64 (and-right (levelsFit S) _ after-objects) i h);
+    direct = direct-fit;
   }
 
 pub read-ranged : (S : State) → Sound S → Ranged (machineOf S)
@@ -147,9 +157,9 @@ module _ (S : State) (m : Machine) (g : Ranged m) (a : Agree S (image.shown m)) 
   object-test x o hx ho = eq-eqb _ _ (a .granted x o hx ho ∙ granted-is m x o ∙ ap (λ (l : ℕ). grantedRoles l x) (sym (read-label o ho)))
 
   pub passes : isImage S ≡ true
-  unfolding isImage seniorityFits permissionsFit usersFit objectsFit levelsFit image.shown
+  unfolding isImage linksFit permissionsFit usersFit objectsFit levelsFit image.shown
   passes =
-      and-intro (all-intro _ 64 (λ r h. eq-eqb _ _ (a .juniors r h)))
+      and-intro (all-intro _ 64 (λ r h. eq-eqb _ _ (a .direct r h)))
       (and-intro (all-intro _ 8 (λ x h. eq-eqb _ _ (a .permitted x h)))
       (and-intro (all-intro _ 64 (λ u h. eq-eqb _ _ (a .assigned u h ∙ ap clearedRoles (sym (read-clearance u h)))))
       (and-intro (all-intro _ 64 (λ o h. and-intro (object-test 0 o (omega arith) h) (object-test 1 o (omega arith) h)))

@@ -1,17 +1,20 @@
 -- What is effective in the image of a machine state, and when the image is sound. Assumes nothing.
-use Prim.Native.Nat.{ℕ, zero, suc, _+_, _-_, _≤_, _<_}
+use Prim.Native.Nat.{ℕ, zero, suc, _+_, _-_, _^_, _≤_, _<_}
 use mathlib.Core.Path.{_≡_, refl, sym, ap, ap₂, subst, _∙_}
 use mathlib.Core.Bool.{true}
 use native.Mathlib.Omega.{arith}
 use lib.Dec.{eqb, ltb}
 use borrow.Author.Tests.{ne-eqb, eqb-true, lt-ltb, ltb-true, ltb-false}
 use Rattle.bits.specs.Words.{_and_, if_then_else_, has, pack}
+use Rattle.bits.specs.Sets.{_without_}
 use Rattle.bits.proofs.Truth.{clash, by-truth, is-false, same-truth, and-intro, and-left, and-right}
 use Rattle.bits.proofs.Below.{all-intro}
-use Rattle.bits.proofs.Word.{has-pack, pack-none}
+use Rattle.bits.proofs.Word.{has-pack, pack-lt, pack-none}
 use Rattle.table.specs.Authority.{senior, permission, idle, mayActivate, effective}
+use Rattle.table.specs.Seniority.{Linked}
 use Rattle.table.specs.Separation.{setsEmpty}
 use Rattle.table.specs.Sound.{Sound}
+use Rattle.table.proofs.Seniority.{juniors-linked, linked-agree}
 use Rattle.table.proofs.Separation.{separated-elim, empty-separated}
 use Rattle.table.proofs.State.{effective-intro, effective-elim, may-activate-user}
 use Rattle.machine.proofs.Order.{dominates}
@@ -19,7 +22,8 @@ use Rattle.machine.specs.Machine as machine
 use Rattle.machine.specs.Machine.{Machine, Seat, at, mayOpen}
 use Rattle.image.specs.Image.{above, clearedRoles, seatRoles, seatOwner, grantedRoles, permittedObjects, shown}
 use Rattle.image.specs.Claims.{Ranged, Safe}
-use Rattle.image.proofs.Above.{Over, reads, writes, over-refl, over-trans, over-antisym}
+use Rattle.image.proofs.Above.{Over, reads, writes, over, over-above, over-refl, over-trans, over-antisym}
+use Rattle.image.proofs.Rows.{linked, others-linked}
 use Rattle.image.proofs.Roles.{seat-elim, seat-reads, seat-writes, idle-none, reader-is, writer-is, other-none, reader-has, writer-has, senior-over, over-senior, authorised-write, authorised-read}
 
 module _ (m : Machine) where
@@ -38,6 +42,26 @@ module _ (m : Machine) where
   pub no-sets : setsEmpty (shown m) ≡ true
   unfolding shown
   no-sets = all-intro _ 64 (λ i h. refl)
+
+  -- ---- its links
+
+  pub shown-direct : (r : ℕ) → shown m .direct r ≡ linked r
+  unfolding shown
+  shown-direct r = refl
+
+  senior-is : (r q : ℕ) → r < 64 → q < 64 → senior (shown m) r q ≡ above r q
+  senior-is r q hr hq = ap (λ (w : ℕ). has w q) (shown-juniors r hr) ∙ has-pack (above r) 64 q hq
+
+  pub shown-linked : Linked (shown m .juniors) (shown m .direct)
+  shown-linked =
+      linked-agree
+      (juniors-linked (shown m .juniors)
+      (λ r h. subst (λ (n : ℕ). n < 2 ^ 64) (sym (shown-juniors r h)) (pack-lt (above r) 64))
+      (λ r h. senior-is r r h h ∙ over-above (over-refl r))
+      (λ r q p hr hq hp a b.
+      senior-is r p hr hp ∙ over-above (over-trans (over r q (sym (senior-is r q hr hq) ∙ a)) (over q p (sym (senior-is q p hq hp) ∙ b)))))
+      (λ r h. refl)
+      (λ r h. ap (λ (w : ℕ). w without r) (shown-juniors r h) ∙ others-linked r ∙ sym (shown-direct r))
 
   -- ---- a session by its seat
 
@@ -227,6 +251,7 @@ module _ (m : Machine) where
         idle-no-openings = λ s x hs hx i. nothing-open s x hs (no-seat s i (m .seat s) refl);
         active-authorised = λ s r hs hr a. role-authorised s r hs hr (m .seat s) refl (sym (has-active s r refl) ∙ a);
         openings-effective = λ s x o hs hx ho a. opening-effective s x o hs ho a;
+        is-linked = shown-linked;
         is-separated = separated-elim (shown m) (empty-separated (shown m) no-sets);
       }
         where

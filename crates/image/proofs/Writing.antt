@@ -5,17 +5,17 @@ use mathlib.Core.List.{List}
 use native.Mathlib.Omega.{arith}
 use lib.Dec.{ltb}
 use lib.ListN.{length, getD}
-use Rattle.bits.specs.Words.{pack, _with_}
+use Rattle.bits.specs.Words.{pack, _with_, tabulate}
 use Rattle.bits.proofs.Truth.{and-false}
 use Rattle.bits.proofs.Word.{pack-none}
 use Rattle.table.specs.Answers.{overlay, clearedFrom}
-use Rattle.table.specs.Table.{tableLength, tabulate}
+use Rattle.table.specs.Table.{tableLength}
 use Rattle.table.proofs.Answers.{length-cleared, cleared-before, cleared-after, length-overlay, overlay-at, overlay-before}
 use Rattle.table.proofs.Encode as encode
-use Rattle.table.proofs.Tabulate.{length-tabulate, getD-tabulate}
+use Rattle.bits.proofs.Tabulate.{length-tabulate, getD-tabulate}
 use Rattle.machine.specs.Machine.{begin}
 use Rattle.image.specs.Image.{above, clearedRoles, seatRoles, seatOwner, grantedRoles, shown, image}
-use Rattle.image.proofs.Rows.{masks, mask-is}
+use Rattle.image.proofs.Rows.{rows, row-is, masks, mask-is}
 
 module _ (t clearances labels : List ℕ) (whole : length t ≡ tableLength) where
   abbrev seniority : List ℕ
@@ -46,6 +46,9 @@ module _ (t clearances labels : List ℕ) (whole : length t ≡ tableLength) whe
   abbrev t6 : List ℕ
   t6 = clearedFrom t5 264
 
+  abbrev t7 : List ℕ
+  t7 = overlay t6 1032 rows
+
   long1 : length t1 ≡ tableLength
   long1 = length-overlay t 0 seniority ∙ whole
 
@@ -61,6 +64,9 @@ module _ (t clearances labels : List ℕ) (whole : length t ≡ tableLength) whe
   long5 : length t5 ≡ tableLength
   long5 = length-overlay t4 200 (granted 32) ∙ long4
 
+  long6 : length t6 ≡ tableLength
+  long6 = length-cleared t5 264 ∙ long5
+
   -- a word that a write leaves, and one that it writes
   left : (l : List ℕ) → length l ≡ tableLength → (at : ℕ) (words : List ℕ) (i : ℕ) → i < at → at < tableLength
       → getD (overlay l at words) i 0 ≡ getD l i 0
@@ -71,30 +77,33 @@ module _ (t clearances labels : List ℕ) (whole : length t ≡ tableLength) whe
   put l e at words i j n p z h k =
       overlay-at l at words j (omega arith) (omega arith) (omega arith) ∙ ap (λ (q : ℕ). getD words q 0) (omega arith)
 
-  late : (i : ℕ) → 264 ≤ i → i < tableLength → getD t6 i 0 ≡ 0
-  late i h k = cleared-after t5 264 i h (let e = long5 in omega arith)
+  before-1032 : (i : ℕ) → i < 1032 → getD t7 i 0 ≡ getD t6 i 0
+  before-1032 i h = left t6 long6 1032 rows i h (omega arith)
+
+  late : (i : ℕ) → 264 ≤ i → i < 1032 → getD t7 i 0 ≡ 0
+  late i h k = before-1032 i k ∙ cleared-after t5 264 i h (let e = long5 in omega arith)
 
   -- a word before each section's end, in the table after that section's write
-  before-264 : (i : ℕ) → i < 264 → getD t6 i 0 ≡ getD t5 i 0
-  before-264 i h = cleared-before t5 264 i h (let e = long5 in omega arith)
+  before-264 : (i : ℕ) → i < 264 → getD t7 i 0 ≡ getD t5 i 0
+  before-264 i h = before-1032 i (omega arith) ∙ cleared-before t5 264 i h (let e = long5 in omega arith)
 
-  before-200 : (i : ℕ) → i < 200 → getD t6 i 0 ≡ getD t4 i 0
+  before-200 : (i : ℕ) → i < 200 → getD t7 i 0 ≡ getD t4 i 0
   before-200 i h = before-264 i (omega arith) ∙ left t4 long4 200 (granted 32) i h (omega arith)
 
-  before-136 : (i : ℕ) → i < 136 → getD t6 i 0 ≡ getD t3 i 0
+  before-136 : (i : ℕ) → i < 136 → getD t7 i 0 ≡ getD t3 i 0
   before-136 i h = before-200 i (omega arith) ∙ left t3 long3 136 (granted 0) i h (omega arith)
 
-  before-72 : (i : ℕ) → i < 72 → getD t6 i 0 ≡ getD t2 i 0
+  before-72 : (i : ℕ) → i < 72 → getD t7 i 0 ≡ getD t2 i 0
   before-72 i h = before-136 i (omega arith) ∙ left t2 long2 72 assigned i h (omega arith)
 
-  before-64 : (i : ℕ) → i < 64 → getD t6 i 0 ≡ getD t1 i 0
+  before-64 : (i : ℕ) → i < 64 → getD t7 i 0 ≡ getD t1 i 0
   before-64 i h = before-72 i (omega arith) ∙ left t1 long1 64 masks i h (omega arith)
 
   -- the words of the image
   role-of : (first o : ℕ) → o < 64 → getD (granted first) o 0 ≡ 0 with (first + getD labels o 0)
   role-of first o h = getD-tabulate 64 _ 0 o h
 
-  granted-words : (x o : ℕ) → x < 8 → o < 64 → getD t6 (136 + 64 * x + o) 0 ≡ grantedRoles (getD labels o 0) x
+  granted-words : (x o : ℕ) → x < 8 → o < 64 → getD t7 (136 + 64 * x + o) 0 ≡ grantedRoles (getD labels o 0) x
   unfolding grantedRoles
   granted-words zero o hx ho =
       before-200 (136 + 0 + o) (omega arith) ∙ put t3 long3 136 (granted 0) o (136 + 0 + o) 64 (omega arith) (length-tabulate 64 _) ho (omega arith) ∙ role-of 0 o ho ∙ ap (λ (r : ℕ). 0 with r) (omega arith)
@@ -102,10 +111,10 @@ module _ (t clearances labels : List ℕ) (whole : length t ≡ tableLength) whe
       before-264 (136 + 64 + o) (omega arith) ∙ put t4 long4 200 (granted 32) o (136 + 64 + o) 64 (omega arith) (length-tabulate 64 _) ho (omega arith) ∙ role-of 32 o ho
   granted-words (suc (suc x)) o hx ho = late (136 + 64 * suc (suc x) + o) (omega arith) (omega arith)
 
-  pub written-image : t6 ≡ image (begin clearances labels)
+  pub written-image : t7 ≡ image (begin clearances labels)
   unfolding shown begin seatOwner seatRoles
   written-image =
-      encode.shown t6 (shown (begin clearances labels)) (length-cleared t5 264 ∙ long5) (record {
+      encode.shown t7 (shown (begin clearances labels)) (length-overlay t6 1032 rows ∙ long6) (record {
         juniors = λ r h.
             before-64 r h ∙ put t whole 0 seniority r r 64 (omega arith) (length-tabulate 64 _) h (omega arith) ∙ getD-tabulate 64 _ 0 r h;
         permitted = λ x h. before-72 (64 + x) (omega arith) ∙ put t1 long1 64 masks x (64 + x) 8 refl refl h (omega arith) ∙ mask-is x h;
@@ -119,4 +128,5 @@ module _ (t clearances labels : List ℕ) (whole : length t ≡ tableLength) whe
         holds = λ s x h k.
             late (712 + 8 * s + x) (omega arith) (omega arith) ∙ sym (pack-none 64 (λ o l. and-false (ltb x 2) refl));
         sets = λ i h. late (968 + i) (omega arith) (omega arith);
+        direct = λ r h. put t6 long6 1032 rows r (1032 + r) 64 refl refl h (omega arith) ∙ row-is r h;
       })

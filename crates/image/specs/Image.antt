@@ -1,5 +1,5 @@
 -- The image of a machine state as a role table (01, "Labels"; Osborn, Sandhu, Munawer): role l reads label l, 32 + l writes it.
-use Rattle.bits.specs.Words.{ℕ, zero, suc, _+_, _-_, Bool, List, leb, ltb, _and_, if_then_else_, pack, _with_}
+use Rattle.bits.specs.Words.{ℕ, zero, suc, _+_, _-_, Bool, not, List, eqb, leb, ltb, _and_, if_then_else_, pack, _with_}
 use Rattle.table.specs.State.{State}
 use Rattle.table.specs.Table.{encode}
 use Rattle.machine.specs.Label.{stands, equalOrAbove}
@@ -42,6 +42,7 @@ shown m = record {
   active = λ s. seatRoles (m .seat s);
   holds = λ s x. pack 64 (λ o. ltb x 2 and m .held s o x);
   sets = λ i. 0;
+  direct = λ r. pack 64 (λ q. not (eqb q r) and above r q);
 }
 
 abbrev pub image : Machine → List ℕ

@@ -1,5 +1,5 @@
 -- The machine state that a table shows, and the test that a sound table is its image.
-use Rattle.bits.specs.Words.{ℕ, zero, suc, _%_, _<_, _≡_, Bool, List, eqb, _and_, has, all, pack}
+use Rattle.bits.specs.Words.{ℕ, zero, suc, _%_, _<_, _≡_, Bool, not, List, eqb, _and_, has, all, pack}
 use Rattle.bits.specs.Sets.{lowest}
 use Rattle.table.specs.State.{State}
 use Rattle.table.specs.Separation.{setsEmpty}
@@ -26,9 +26,9 @@ machineOf S = record {
 
 -- ---- the test
 
--- the seniority is that of the labels
-unfoldable pub seniorityFits : State → Bool
-seniorityFits S = all 64 (λ r. eqb (S .juniors r) (pack 64 (above r)))
+-- the direct juniors of a role are all that the labels put below it, but the role itself (02, S-5)
+unfoldable pub linksFit : State → Bool
+linksFit S = all 64 (λ r. eqb (S .direct r) (pack 64 (λ q. not (eqb q r) and above r q)))
 
 -- the permissions are those of modes 0 and 1
 unfoldable pub permissionsFit : State → Bool
@@ -49,10 +49,11 @@ objectsFit S =
 unfoldable pub levelsFit : State → Bool
 levelsFit S = all 32 (λ s. eqb (S .active s) (seatRoles (machineOf S .seat s)))
 
--- a sound state is the image of the machine state that it shows; it has no separation sets (02, S-4). The users of its sessions and its openings are the machine's,
--- whatever they are; and where modes 2 to 7 have no permissions, nothing is granted or open in them.
+-- a sound state is the image of the machine state that it shows; it has no separation sets (02, S-4). Its seniority is what its
+-- links make of it, the users of its sessions and its openings are the machine's, whatever they are; and where modes 2 to 7
+-- have no permissions, nothing is granted or open in them.
 unfoldable pub isImage : State → Bool
-isImage S = seniorityFits S and permissionsFit S and usersFit S and objectsFit S and levelsFit S and setsEmpty S
+isImage S = linksFit S and permissionsFit S and usersFit S and objectsFit S and levelsFit S and setsEmpty S
 
 -- what `is_image` answers: no for a list that is no table
 unfoldable pub showsImage : List ℕ → Bool

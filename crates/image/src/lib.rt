@@ -5,6 +5,7 @@ use roles::Answer;
 use roles::Refusal;
 use table::layout::ACTIVE;
 use table::layout::ASSIGNED;
+use table::layout::DIRECT;
 use table::layout::GRANTED;
 use table::layout::OWNER;
 use table::layout::PERMITTED;
@@ -12,96 +13,96 @@ use table::layout::WORDS;
 ghost use mathlib.Core.Path.{_≡_};
 ghost use Prim.Native.Nat.{_+_, _≤_};
 ghost use lib.ListN.{length, getD};
-ghost use Rattle.bits.specs.Words.{_with_, pack};
+ghost use Rattle.bits.specs.Words.{_with_, pack, tabulate};
 ghost use Rattle.table.specs.Reading.{state};
-ghost use Rattle.table.specs.Table.{tableLength, tabulate};
+ghost use Rattle.table.specs.Table.{tableLength};
 ghost use Rattle.roles.specs.Answer.{numberOf};
 ghost use Rattle.machine.specs.Label.{stands};
 ghost use Rattle.image.specs.Image.{image, above, clearedRoles, seatRoles};
-ghost use Rattle.image.specs.Test.{seatOf, seniorityFits, permissionsFit, usersFit, objectsFit, levelsFit, IsLabel, showsImage};
+ghost use Rattle.image.specs.Test.{seatOf, linksFit, permissionsFit, usersFit, objectsFit, levelsFit, IsLabel, showsImage};
 ghost use Rattle.machine.specs.Machine.{begin};
 ghost use Rattle.image.specs.SetUp.{areLabels, labelSetUp};
 
-// The juniors of each role, and the role, as `junior_roles` works them out: written out for the test, which every label request
-// pays for.
-const JUNIORS: [u64; 64] = [
+// The direct juniors of each role: of those that `junior_roles` works out all but the role. Written out for the test, which every
+// label request pays for.
+const LINKS: [u64; 64] = [
+    0,
     0x1,
-    0x3,
-    0x5,
-    0xf,
-    0x11,
-    0x33,
-    0x55,
-    0xff,
+    0x1,
+    0x7,
+    0x1,
+    0x13,
+    0x15,
+    0x7f,
+    0x1,
+    0x103,
+    0x105,
+    0x70f,
+    0x111,
+    0x1333,
+    0x1555,
+    0x7fff,
     0x101,
-    0x303,
-    0x505,
-    0xf0f,
-    0x1111,
-    0x3333,
-    0x5555,
-    0xffff,
+    0x10303,
+    0x10505,
+    0x70f0f,
+    0x11111,
+    0x133333,
+    0x155555,
+    0x7fffff,
     0x10101,
-    0x30303,
-    0x50505,
-    0xf0f0f,
-    0x111111,
-    0x333333,
-    0x555555,
-    0xffffff,
-    0x1010101,
-    0x3030303,
-    0x5050505,
-    0xf0f0f0f,
-    0x11111111,
-    0x33333333,
-    0x55555555,
-    0xffffffff,
-    0xffffffff00000000,
-    0xaaaaaaaa00000000,
-    0xcccccccc00000000,
-    0x8888888800000000,
-    0xf0f0f0f000000000,
-    0xa0a0a0a000000000,
-    0xc0c0c0c000000000,
-    0x8080808000000000,
-    0xffffff0000000000,
-    0xaaaaaa0000000000,
-    0xcccccc0000000000,
-    0x8888880000000000,
-    0xf0f0f00000000000,
-    0xa0a0a00000000000,
-    0xc0c0c00000000000,
+    0x1030303,
+    0x1050505,
+    0x70f0f0f,
+    0x1111111,
+    0x13333333,
+    0x15555555,
+    0x7fffffff,
+    0xfffffffe00000000,
+    0xaaaaaaa800000000,
+    0xccccccc800000000,
+    0x8888888000000000,
+    0xf0f0f0e000000000,
+    0xa0a0a08000000000,
+    0xc0c0c08000000000,
     0x8080800000000000,
-    0xffff000000000000,
-    0xaaaa000000000000,
-    0xcccc000000000000,
-    0x8888000000000000,
-    0xf0f0000000000000,
-    0xa0a0000000000000,
-    0xc0c0000000000000,
+    0xfffffe0000000000,
+    0xaaaaa80000000000,
+    0xccccc80000000000,
+    0x8888800000000000,
+    0xf0f0e00000000000,
+    0xa0a0800000000000,
+    0xc0c0800000000000,
     0x8080000000000000,
-    0xff00000000000000,
-    0xaa00000000000000,
-    0xcc00000000000000,
-    0x8800000000000000,
-    0xf000000000000000,
-    0xa000000000000000,
-    0xc000000000000000,
+    0xfffe000000000000,
+    0xaaa8000000000000,
+    0xccc8000000000000,
+    0x8880000000000000,
+    0xf0e0000000000000,
+    0xa080000000000000,
+    0xc080000000000000,
     0x8000000000000000,
+    0xfe00000000000000,
+    0xa800000000000000,
+    0xc800000000000000,
+    0x8000000000000000,
+    0xe000000000000000,
+    0x8000000000000000,
+    0x8000000000000000,
+    0,
 ];
 
 // The objects permitted in each mode: all to be read and to be written.
 const PERMITTED_OBJECTS: [u64; 8] = [0xffffffffffffffff, 0xffffffffffffffff, 0, 0, 0, 0, 0, 0];
 
-// Whether the seniority of the roles is that of the labels.
-fn seniority_fits(t: &[u64]) -> bool
+// Whether the direct juniors of the roles are those of an image.
+fn links_fit(t: &[u64]) -> bool
     requires { ⌜ length (now t) ≡ tableLength ⌝ }
-    ensures { λ b. ⌜ b ≡ seniorityFits (state (now (t .entry))) ⌝ }
+    ensures { λ b. ⌜ b ≡ linksFit (state (now (t .entry))) ⌝ }
 {
-    let rows = JUNIORS;
+    let rows = LINKS;
     for r in 0..64 {
-        if t[r] != rows[r] {
+        if t[DIRECT + r] != rows[r] {
             return false;
         }
     }
@@ -199,7 +200,7 @@ pub fn is_image(t: &[u64]) -> bool
     if t.len() != WORDS {
         return false;
     }
-    if !seniority_fits(t) {
+    if !links_fit(t) {
         return false;
     }
     if !permissions_fit(t) {
@@ -314,6 +315,7 @@ fn write_image(t: &mut [u64], clearances: &[u8], labels: &[u8])
     table::overlay(t, GRANTED, &granted_words(labels, 0));
     table::overlay(t, GRANTED + 64, &granted_words(labels, 32));
     table::clear_from(t, GRANTED + 128);
+    table::overlay(t, DIRECT, &LINKS);
 }
 
 // The label set-up: 64 clearances and 64 object labels, and all sessions idle.

@@ -21,7 +21,7 @@ use Rattle.roles.specs.Guard.{roleStep}
 use Rattle.roles.proofs.Codes.{is-code, no-pair}
 use Rattle.roles.proofs.Serving.{served-known, served-unknown}
 use Rattle.roles.proofs.Guarding.{checked-argument, checked-served, role-step-sound}
-use Rattle.setup.specs.Closure.{closure, acyclic}
+use Rattle.closure.specs.Closure.{closure, acyclic}
 use Rattle.setup.proofs.SetUp.{set-up-cycle, set-up-accepted}
 use Rattle.image.specs.SetUp.{areLabels}
 use Rattle.image.proofs.Accepting as image

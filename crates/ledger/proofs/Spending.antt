@@ -16,7 +16,7 @@ use Rattle.roles.specs.Roles.{isCode, inRange, carriesBadPair, decode, known}
 use Rattle.roles.specs.Guard.{allowedSound, soundStep}
 use Rattle.roles.proofs.Serving.{served-known, served-unknown}
 use Rattle.roles.proofs.Guarding.{checked-code, checked-argument, checked-pair, sound-step-table, sound-step-short, sound-step-served}
-use Rattle.setup.specs.Closure.{closure, acyclic}
+use Rattle.closure.specs.Closure.{closure, acyclic}
 use Rattle.setup.specs.SetUp.{roleSetUp}
 use Rattle.setup.proofs.SetUp.{set-up-short, set-up-lists, set-up-cycle, set-up-accepted}
 

@@ -6,10 +6,10 @@ use mathlib.Core.List.{List, [], _∷_}
 use native.Mathlib.Omega.{arith}
 use native.Mathlib.Nat.{le-of-suc-le-suc}
 use lib.Dec.{eqb}
-use borrow.Author.Tests.{eqb-true, eqb-false, not-true}
+use borrow.Author.Tests.{eqb-true, eqb-false, ne-eqb, not-true}
 use Rattle.bits.specs.Words.{_and_, _or_, upd, has, all, _with_}
 use Rattle.bits.specs.Sets.{_without_}
-use Rattle.bits.proofs.Truth.{clash, by-truth, same-truth, and-intro, and-left, and-right, false-or, true-and, false-and, and-true, and-false, and-comm, past, stopped}
+use Rattle.bits.proofs.Truth.{clash, by-truth, is-false, same-truth, not-intro, and-intro, and-left, and-right, false-or, true-and, false-and, and-true, and-false, and-comm, past, stopped}
 use Rattle.bits.proofs.Below.{all-intro, all-elim, any-intro, any-elim}
 use Rattle.bits.proofs.Word.{has-with, has-without, with-there, without-absent}
 use Rattle.bits.proofs.Members.{each-intro, each-elim}
@@ -20,15 +20,16 @@ use Rattle.table.specs.Sound.{rolesSound, sound, Sound}
 use Rattle.table.specs.Reading.{state}
 use Rattle.table.specs.Table.{isTable, encode}
 use Rattle.table.proofs.State.{authorised-intro, authorised-elim, effective-intro, effective-elim}
+use Rattle.table.proofs.Seniority.{linked-junior}
 use Rattle.table.proofs.Separation.{fewer-elim, fewer-intro, empty-separated}
 use Rattle.table.proofs.Sound.{sound-elim, sound-intro, sound-is}
 use Rattle.table.proofs.Table.{table-length}
-use Rattle.table.proofs.Agree.{Agree, agree-refl, sound-agree, upd-other, by-upd, upd-own, grid-same, agree-own-holds, agree-own-active, agree-own-assigned, agree-own-granted, agree-own-set}
+use Rattle.table.proofs.Agree.{Agree, agree-refl, sound-agree, upd-other, by-upd, upd-own, grid-same, agree-own-holds, agree-own-active, agree-own-assigned, agree-own-granted, agree-own-set, agree-own-direct}
 use Rattle.table.proofs.Encode.{state-encode, encode-cong, encode-state, write-owner, write-active}
 use Rattle.sound.specs.Answers.{isSound}
 use Rattle.sound.proofs.Answers.{sound-state, sound-table}
-use Rattle.roles.specs.Request.{Ask, ask, Outcome}
-use Rattle.roles.specs.Roles.{Request, opens, closes, starts, ends, activates, drops, assigns, deassigns, grants, revokes, separates, limits, inRange, decode, known, rolesAllow, allowed, changed}
+use Rattle.roles.specs.Request.{ask, Outcome}
+use Rattle.roles.specs.Roles.{Request, opens, closes, starts, ends, activates, drops, assigns, deassigns, grants, revokes, separates, links, unlinks, limits, inRange, decode, known, rolesAllow, allowed, changed}
 use Rattle.roles.specs.Guard.{roleStep, allowedSound}
 use Rattle.roles.specs.Served.{Ranged}
 use Rattle.roles.specs.Source.{Sigma, sigma, EP, opened, closed, tauOpen, tauClose, Same}
@@ -37,14 +38,8 @@ use Rattle.roles.proofs.Serving.{decide-yes, decide-no}
 use Rattle.roles.proofs.Codes.{next-code, is-code, is-code-elim, no-pair}
 use Rattle.roles.proofs.Guarding.{role-step-short, role-step-unsound, role-step-sound}
 use Rattle.roles.proofs.Same.{allowed-same, checked-by, step-same}
-use Rattle.roles.proofs.Steps.{Passed, passed, by-step, decided, in-reach, step-sound}
+use Rattle.roles.proofs.Steps.{answer-of, state-of, Passed, passed, by-step, decided, in-reach, allowed-yes, yes-allowed, after-yes, step-sound}
 use Rattle.roles.proofs.Requests.{within-intro}
-
-answer-of : {A : Type 0} {o o′ : Outcome A} → o ≡ o′ → o .answer ≡ o′ .answer
-answer-of {A} e = ap (λ (p : Outcome A). p .answer) e
-
-state-of : {A : Type 0} {o o′ : Outcome A} → o ≡ o′ → o .state ≡ o′ .state
-state-of {A} e = ap (λ (p : Outcome A). p .state) e
 
 -- the words of a table of 64-bit words
 record Words (S : State) : Type 0 where
@@ -52,6 +47,7 @@ record Words (S : State) : Type 0 where
   granted-word : (x o : ℕ) → S .granted x o < 2 ^ 64
   active-word : (s : ℕ) → S .active s < 2 ^ 64
   holds-word : (s x : ℕ) → S .holds s x < 2 ^ 64
+  direct-word : (r : ℕ) → S .direct r < 2 ^ 64
 
 pub unchanged : Unchanged
 unchanged t q n =
@@ -69,10 +65,10 @@ kept-sound t (q ∷ qs) s = kept-sound (roleStep t q .state) qs (step-sound t q 
 pub kept-apart : KeptApart
 kept-apart t qs s = sound-elim _ (sound-state _ (kept-sound t qs s)) .is-separated
 
--- codes 1 to 10 leave the sets
-same-sets : (S : State) (code a b c : ℕ) → 1 ≤ code → code ≤ 10 → changed S (decode (ask code a b c)) .sets ≡ S .sets
+-- all codes but 11 and 12 leave the sets
+same-sets : (S : State) (code a b c : ℕ) → 1 ≤ code → code ≤ 14 → (code ≡ 11 → ⊥) → (code ≡ 12 → ⊥) → changed S (decode (ask code a b c)) .sets ≡ S .sets
 unfolding changed decode
-same-sets S code a b c l h =
+same-sets S code a b c l h n11 n12 =
     next-code P 0 refl
     (next-code P 1 refl
     (next-code P 2 refl
@@ -83,7 +79,10 @@ same-sets S code a b c l h =
     (next-code P 7 refl
     (next-code P 8 refl
     (next-code P 9 refl
-    (λ m. absurd (omega arith))))))))))) l
+    (λ m. let k : 12 < code = omega (arith, n11, n12) in
+    next-code P 12 refl
+    (next-code P 13 refl
+    (λ m. absurd (omega arith))) k)))))))))) l
   where
     P : ℕ → Type 0
     P k = changed S (decode (ask k a b c)) .sets ≡ S .sets
@@ -93,7 +92,7 @@ unused S f none e = ap (λ (w : ℕ → ℕ). all 64 (λ i. eqb (w i) 0)) e ∙ 
 
 pub without-sets : WithoutSets
 unfolding plainStep allowed
-without-sets t q none h =
+without-sets t q none n11 n12 =
     let S = state t in
     let same : sound S ≡ rolesSound S = sound-is S ∙ and-true _ (empty-separated S none) in
     by-truth (isTable t)
@@ -101,7 +100,7 @@ without-sets t q none h =
     (λ s.
     role-step-sound t q i (same ∙ s)
     ∙ checked-by allowed rolesAllow t q (λ c r b.
-    and-true _ (empty-separated _ (unused S _ none (same-sets S (q .code) (q .a) (q .b) (q .c) (is-code-elim q c .0) h))))
+    and-true _ (empty-separated _ (unused S _ none (same-sets S (q .code) (q .a) (q .b) (q .c) (is-code-elim q c .0) (is-code-elim q c .1) n11 n12))))
     ∙ sym (past _ _ i ∙ past _ _ s))
     (λ s. role-step-unsound t q i (same ∙ s) ∙ sym (past _ _ i ∙ stopped _ _ s)))
     (λ i. role-step-short t q i ∙ sym (stopped _ _ i))
@@ -254,15 +253,6 @@ close-is-table-one t s o x f hs ho hx =
 
 -- ---- a start
 
-module _ (t : List ℕ) (q : Ask) (p : Passed t q) where
-  allowed-yes : allowed (state t) (decode q) ≡ true → roleStep t q .answer ≡ 1
-  allowed-yes a = answer-of (decided t q p ∙ decide-yes 1 1 _ t a)
-
-  yes-allowed : roleStep t q .answer ≡ 1 → allowed (state t) (decode q) ≡ true
-  yes-allowed e =
-      by-truth (allowed (state t) (decode q)) (λ a. a)
-      (λ a. let z = sym (answer-of (decided t q p ∙ decide-no 1 1 _ t a)) ∙ e in absurd (omega arith))
-
 pub start-means : StartMeans
 unfolding inRange limits decode known allowedSound
 start-means t s u roles f hs hu hr =
@@ -291,12 +281,9 @@ pub start-writes : StartWrites
 unfolding decode changed
 start-writes t s u roles e =
     let q = ask 3 s u roles in
-    by-step t q
-    (λ n h z. let k = sym (answer-of z) ∙ e in absurd (omega arith))
-    (λ p.
+    after-yes t q e (λ p a z.
     let hs = in-reach t q p .0 in
-    state-of (decided t q p ∙ decide-yes 1 1 _ t (yes-allowed t q p e))
-    ∙ sym (write-active _ (write-owner (state t) (encode-state t (table-length t (p .table))) s _ hs) s roles hs))
+    z ∙ sym (write-active _ (write-owner (state t) (encode-state t (table-length t (p .table))) s _ hs) s roles hs))
 
 -- ---- what is there added, what is absent removed
 
@@ -315,6 +302,8 @@ module _ (S : State) (f : Sound S) (w : Words S) where
   same-state (grants r x o) h i = agree-own-granted S x o (with-there (S .granted x o) r (w .granted-word x o) i)
   same-state (revokes r x o) h i = agree-own-granted S x o (without-absent (S .granted x o) r (w .granted-word x o) (not-true _ i))
   same-state (separates n m b) h i = agree-own-set S n (sym (eqb-true _ m (and-left _ _ i))) (sym (eqb-true _ b (and-right (eqb (mask S n) m) _ i)))
+  same-state (links r q) h i = agree-own-direct S (f .is-linked) r (with-there (S .direct r) q (w .direct-word r) i)
+  same-state (unlinks r q) h i = clash i refl
 
   -- and is sound
   sound-again : (r : Request) → Ranged r → idempotent S r ≡ true → rolesSound (changed S r) and separated (changed S r) ≡ true
@@ -334,6 +323,11 @@ module _ (S : State) (f : Sound S) (w : Words S) where
   rules-allow (grants r x o) h i = refl
   rules-allow (revokes r x o) h i = and-left _ _ (sound-again (revokes r x o) h i)
   rules-allow (separates n m b) h i = and-left _ _ (sound-again (separates n m b) h i)
+  rules-allow (links r q) h i =
+      let other : r ≡ q → ⊥ = λ e. clash (ap (has (S .direct r)) e ∙ i) (f .is-linked .own-clear r (h .0)) in
+      and-intro (not-intro (ne-eqb r q other))
+      (not-intro (is-false (λ e. other (f .is-antisymmetric r q (h .0) (h .1) (linked-junior (f .is-linked) r q (h .0) (h .1) i) e))))
+  rules-allow (unlinks r q) h i = clash i refl
 
   is-allowed : (r : Request) → Ranged r → idempotent S r ≡ true → allowed S r ≡ true
   unfolding allowed
@@ -343,7 +337,7 @@ pub added-again : AddedAgain
 added-again t q w f c r b k i =
     let S = state t in
     let p = passed t q f c r b k in
-    let v : Words S = record { assigned-word = λ u. w _; granted-word = λ x o. w _; active-word = λ s. w _; holds-word = λ s x. w _ } in
+    let v : Words S = record { assigned-word = λ u. w _; granted-word = λ x o. w _; active-word = λ s. w _; holds-word = λ s x. w _; direct-word = λ r. w _ } in
     let g = sound-elim S (sound-state t f) in
     let d = decided t q p ∙ decide-yes 1 1 _ t (is-allowed S g v (decode q) (in-reach t q p) i) in
     record {

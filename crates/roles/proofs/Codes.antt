@@ -1,4 +1,4 @@
--- Codes and arguments: what a code from 1 to 12 decodes to, with arguments in range. Assumes nothing.
+-- Codes and arguments: what a code from 1 to 14 decodes to, with arguments in range. Assumes nothing.
 use Prim.Native.Nat.{ℕ, zero, suc, _+_, _*_, _-_, _≤_, _<_, suc-le-suc}
 use mathlib.Core.Path.{_≡_, refl, sym, ap, subst, _∙_}
 use mathlib.Core.Bool.{Bool, true, false}
@@ -46,21 +46,25 @@ next-code {code} P k p f l =
     (λ e. let d = eqb-false code (suc k) e in f (omega arith))
 
 module _ (q : Ask) where
-  pub is-code : 1 ≤ q .code → q .code ≤ 12 → isCode q ≡ true
+  pub is-code : 1 ≤ q .code → q .code ≤ 14 → isCode q ≡ true
   unfolding isCode
-  is-code l h = and-intro (le-leb 1 (q .code) l) (le-leb (q .code) 12 h)
+  is-code l h = and-intro (le-leb 1 (q .code) l) (le-leb (q .code) 14 h)
 
-  pub is-code-elim : isCode q ≡ true → (1 ≤ q .code) × (q .code ≤ 12)
+  pub is-code-elim : isCode q ≡ true → (1 ≤ q .code) × (q .code ≤ 14)
   unfolding isCode
-  is-code-elim e = (leb-true 1 (q .code) (and-left _ _ e), leb-true (q .code) 12 (and-right _ _ e))
+  is-code-elim e = (leb-true 1 (q .code) (and-left _ _ e), leb-true (q .code) 14 (and-right _ _ e))
 
-  pub no-code : NoneTo 12 (q .code) → isCode q ≡ false
-  no-code k = is-false (λ e. none-left 12 k (is-code-elim e))
+  pub no-code : NoneTo 14 (q .code) → isCode q ≡ false
+  no-code k = is-false (λ e. none-left 14 k (is-code-elim e))
 
   -- only codes 11 and 12 carry a pair
   pub no-pair : q .code ≤ 10 → carriesBadPair q ≡ false
   unfolding carriesBadPair
   no-pair h = false-and _ (false-or _ (ne-eqb (q .code) 11 (λ e. omega arith)) ∙ ne-eqb (q .code) 12 (λ e. omega arith))
+
+  pub no-pair-past : 13 ≤ q .code → carriesBadPair q ≡ false
+  unfolding carriesBadPair
+  no-pair-past h = false-and _ (false-or _ (ne-eqb (q .code) 11 (λ e. omega arith)) ∙ ne-eqb (q .code) 12 (λ e. omega arith))
 
   pub pair-carried : 11 ≤ q .code → q .code ≤ 12 → carriesBadPair q ≡ badPair (q .b) (q .c)
   unfolding carriesBadPair
@@ -97,7 +101,7 @@ module _ (a b c : ℕ) where
   three code largest e = let w = within-elim code a b c largest e in (suc-le-suc (w .first), suc-le-suc (w .second), suc-le-suc (w .third))
 
 -- what a request that passed refusals 16 and 21 names is there
-pub ranged : (code a b c : ℕ) → 1 ≤ code → code ≤ 12 → inRange (ask code a b c) ≡ true → carriesBadPair (ask code a b c) ≡ false
+pub ranged : (code a b c : ℕ) → 1 ≤ code → code ≤ 14 → inRange (ask code a b c) ≡ true → carriesBadPair (ask code a b c) ≡ false
     → Ranged (decode (ask code a b c))
 unfolding inRange limits decode
 ranged code a b c l h =
@@ -113,7 +117,9 @@ ranged code a b c l h =
     (next-code P 9 (λ e g. three a b c 10 _ e)
     (next-code P 10 (λ e g. (let k = one a b c 11 _ e in omega arith, good 11 (omega arith) (omega arith) g))
     (next-code P 11 (λ e g. (let k = one a b c 12 _ e in omega arith, good 12 (omega arith) (omega arith) g))
-    (λ m. absurd (omega arith))))))))))))) l
+    (next-code P 12 (λ e g. two a b c 13 _ e)
+    (next-code P 13 (λ e g. two a b c 14 _ e)
+    (λ m. absurd (omega arith))))))))))))))) l
   where
     P : ℕ → Type 0
     P k = inRange (ask k a b c) ≡ true → carriesBadPair (ask k a b c) ≡ false → Ranged (decode (ask k a b c))
@@ -157,10 +163,19 @@ decode-set code a b c l h =
     P : ℕ → Type 0
     P k = decode (ask k a b c) ≡ separates (16 * (k - 11) + a) b c
 
--- a set names no permission
-pub set-known : (S : State) (code a b c : ℕ) → 11 ≤ code → code ≤ 12 → known S (decode (ask code a b c)) ≡ true
+-- the third argument of code 13 or 14 is not looked at
+pub decode-link : (code a b c : ℕ) → 13 ≤ code → code ≤ 14 → decode (ask code a b c) ≡ decode (ask code a b 0)
+unfolding decode
+decode-link code a b c l h = next-code P 12 refl (next-code P 13 refl (λ m. absurd (omega arith))) l
+  where
+    P : ℕ → Type 0
+    P k = decode (ask k a b c) ≡ decode (ask k a b 0)
+
+-- sets and links name no permission
+pub known-past : (S : State) (code a b c : ℕ) → 11 ≤ code → code ≤ 14 → known S (decode (ask code a b c)) ≡ true
 unfolding known decode
-set-known S code a b c l h = next-code P 10 refl (next-code P 11 refl (λ m. absurd (omega arith))) l
+known-past S code a b c l h =
+    next-code P 10 refl (next-code P 11 refl (next-code P 12 refl (next-code P 13 refl (λ m. absurd (omega arith))))) l
   where
     P : ℕ → Type 0
     P k = known S (decode (ask k a b c)) ≡ true

@@ -7,7 +7,6 @@ use native.Mathlib.Omega.{arith}
 use lib.ListN.{length}
 use Rattle.bits.proofs.Truth.{if-true, if-false, past, stopped}
 use Rattle.table.specs.State.{State}
-use Rattle.table.specs.Separation.{badPair}
 use Rattle.table.specs.Sound.{sound}
 use Rattle.table.specs.Reading.{state}
 use Rattle.table.specs.Table.{tableLength, isTable}
@@ -16,7 +15,7 @@ use Rattle.roles.specs.Request.{Ask, ask, Outcome, refuse}
 use Rattle.roles.specs.Roles.{Request, isCode, inRange, carriesBadPair, decode, known, allowed}
 use Rattle.roles.specs.Guard.{served, checked, roleStep, allowedSound, soundStep}
 use Rattle.roles.specs.Served.{Fit, Served}
-use Rattle.roles.proofs.Codes.{is-code, no-pair, pair-carried, ranged, Paired, paired, set-known}
+use Rattle.roles.proofs.Codes.{is-code, no-pair, ranged, Paired, paired, known-past}
 use Rattle.roles.proofs.Serving.{decide-yes, decide-no, served-known}
 
 module _ (test : State → Request → Bool) (t : List ℕ) (q : Ask) where
@@ -113,19 +112,16 @@ ready t code a b c e l h i =
       step = sound-step-served t q (is-table t e) (is-code q l (omega arith)) i n;
     }
 
--- the same of a code that carries a pair
-pub record ReadySet (t : List ℕ) (code a b c : ℕ) : Type 0 where
+-- the same of a code above 10, which names no permission
+pub record ReadyPast (t : List ℕ) (code a b c : ℕ) : Type 0 where
   pub fit : Fit t (decode (ask code a b c))
   pub is-known : known (state t) (decode (ask code a b c)) ≡ true
   pub step : soundStep t (ask code a b c) ≡ served allowedSound t (decode (ask code a b c))
 
-pub ready-set : (t : List ℕ) (code a b c : ℕ) → length t ≡ tableLength → 11 ≤ code → code ≤ 12 → inRange (ask code a b c) ≡ true
-    → badPair b c ≡ false → ReadySet t code a b c
-ready-set t code a b c e l h i g =
-    let q = ask code a b c in
-    let n = pair-carried q l h ∙ g in
-    record {
-      fit = record { whole = e; ranged = ranged code a b c (omega arith) h i n };
-      is-known = set-known (state t) code a b c l h;
-      step = sound-step-served t q (is-table t e) (is-code q (omega arith) h) i n;
-    }
+pub ready-past : (t : List ℕ) (code a b c : ℕ) → length t ≡ tableLength → 11 ≤ code → code ≤ 14 → inRange (ask code a b c) ≡ true
+    → carriesBadPair (ask code a b c) ≡ false → ReadyPast t code a b c
+ready-past t code a b c e l h i n = record {
+  fit = record { whole = e; ranged = ranged code a b c (omega arith) h i n };
+  is-known = known-past (state t) code a b c l h;
+  step = sound-step-served t (ask code a b c) (is-table t e) (is-code (ask code a b c) (omega arith) h) i n;
+}

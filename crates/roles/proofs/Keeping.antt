@@ -1,13 +1,13 @@
 -- A yes keeps a sound state sound. Assumes nothing.
 use Prim.Native.Nat.{ℕ, suc, _<_}
 use mathlib.Core.Path.{_≡_, refl, sym, ap, _∙_}
-use mathlib.Core.Bool.{true}
+use mathlib.Core.Bool.{true, not}
 use native.Mathlib.Omega.{arith}
 use lib.Dec.{eqb}
-use borrow.Author.Tests.{ne-eqb}
+use borrow.Author.Tests.{ne-eqb, eqb-false, not-true}
 use Rattle.bits.specs.Words.{upd, has, _with_}
 use Rattle.bits.specs.Sets.{each, _without_}
-use Rattle.bits.proofs.Truth.{clash, and-left, and-right}
+use Rattle.bits.proofs.Truth.{clash, and-intro, and-left, and-right}
 use Rattle.bits.proofs.Word.{with-elim, with-old, without-old, without-none}
 use Rattle.bits.proofs.Members.{not-empty, each-elim}
 use Rattle.table.specs.State.{State}
@@ -20,7 +20,8 @@ use Rattle.table.proofs.Sound.{sound-elim, sound-is}
 use Rattle.table.proofs.State.{may-activate-idle, may-activate-user}
 use Rattle.table.proofs.Agree.{upd-same, by-upd, grid-same}
 use Rattle.table.proofs.Keeps.{no-roles-none-effective, authorised-same, authorised-more, effective-more, holds-keeps, active-keeps, assigned-keeps, granted-keeps, start-keeps, end-keeps}
-use Rattle.roles.specs.Roles.{Request, opens, closes, starts, ends, activates, drops, assigns, deassigns, grants, revokes, separates, known, rolesAllow, allowed, changed}
+use Rattle.sound.proofs.Parts.{link-keeps}
+use Rattle.roles.specs.Roles.{Request, opens, closes, starts, ends, activates, drops, assigns, deassigns, grants, revokes, separates, links, unlinks, known, rolesAllow, allowed, changed}
 use Rattle.roles.specs.Served.{Ranged}
 
 module _ (S : State) (f : Sound S) where
@@ -50,7 +51,7 @@ module _ (S : State) (f : Sound S) where
       active-keeps S f s (S .active s with r)
       (λ q hq m. with-elim (S .active s) r q hq m (λ j. ap (mayActivate S s) j ∙ e) (λ k. f .active-authorised s q hs hq k))
       (λ i. clash e (may-activate-idle S s r i))
-      (λ x o hx ho m. effective-more S _ refl s x o refl (λ q hq k. k)
+      (λ x o hx ho m. effective-more S _ (λ p q hp hq k. k) s x o refl (λ q hq k. k)
       (λ q hq k. ap (λ (w : ℕ). has w q) (upd-same (S .active) s (S .active s with r)) ∙ with-old (S .active s) r q hq k)
       (f .openings-effective s x o hs hx ho m))
       d
@@ -58,7 +59,7 @@ module _ (S : State) (f : Sound S) where
   assign-keeps : (u r : ℕ) → u < 64 → Separated (withAssigned S u (S .assigned u with r)) → Sound (withAssigned S u (S .assigned u with r))
   assign-keeps u r hu d =
       assigned-keeps S f u (S .assigned u with r)
-      (λ s q hs hq o m. authorised-more S _ refl u q
+      (λ s q hs hq o m. authorised-more S _ (λ a b ha hb k. k) u q hq
       (λ p hp k. ap (λ (w : ℕ). has w p) (upd-same (S .assigned) u (S .assigned u with r)) ∙ with-old (S .assigned u) r p hp k)
       (sym (may-activate-user S s u q o) ∙ f .active-authorised s q hs hq m))
       d
@@ -66,7 +67,7 @@ module _ (S : State) (f : Sound S) where
   grant-keeps : (r x o : ℕ) → x < 8 → o < 64 → permission S x o ≡ true → Sound (withGranted S x o (S .granted x o with r))
   grant-keeps r x o hx ho p =
       granted-keeps S f x o (S .granted x o with r) (λ q hq m. p)
-      (λ s hs m. effective-more S _ refl s x o refl
+      (λ s hs m. effective-more S _ (λ p q hp hq k. k) s x o refl
       (λ q hq k. ap (λ (w : ℕ). has w q) (grid-same (S .granted) x o (S .granted x o with r)) ∙ with-old (S .granted x o) r q hq k)
       (λ q hq k. k)
       (f .openings-effective s x o hs hx ho m))
@@ -101,3 +102,7 @@ changed-sound S f (deassigns u r) h k a = sound-elim _ (sound-is _ ∙ a)
 changed-sound S f (grants r x o) h k a = grant-keeps S f r x o (h .1) (h .2) k
 changed-sound S f (revokes r x o) h k a = sound-elim _ (sound-is _ ∙ a)
 changed-sound S f (separates n m b) h k a = sound-elim _ (sound-is _ ∙ a)
+changed-sound S f (links r q) h k a =
+    let e = and-left _ _ a in
+    link-keeps S f r q (h .0) (h .1) (eqb-false r q (not-true _ (and-left _ _ e))) (not-true _ (and-right (not (eqb r q)) _ e)) (separated-elim _ (and-right _ _ a))
+changed-sound S f (unlinks r q) h k a = sound-elim _ (sound-is _ ∙ and-intro (and-right (has (S .direct r) q) _ (and-left _ _ a)) (and-right _ _ a))

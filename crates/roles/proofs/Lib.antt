@@ -9,3 +9,4 @@ pub mod Steps
 pub mod Requests
 pub mod Playing
 pub mod Claims
+pub mod Seniority

@@ -4,7 +4,7 @@ use mathlib.Core.Path.{_≡_, refl, sym, ap, _∙_}
 use mathlib.Core.Bool.{Bool, true, false}
 use mathlib.Core.List.{List}
 use borrow.Author.Tests.{le-leb}
-use Rattle.bits.specs.Words.{_and_}
+use Rattle.bits.specs.Words.{_and_, has}
 use Rattle.bits.specs.Sets.{each}
 use Rattle.bits.proofs.Truth.{by-truth, and-left, true-and, and-true, and-assoc}
 use Rattle.table.specs.State.{State}
@@ -18,8 +18,9 @@ use Rattle.table.proofs.Separation.{separated-intro}
 use Rattle.table.proofs.Sound.{sound-elim, sound-intro, sound-is, sets-roles-sound}
 use Rattle.table.proofs.Keeps.{same-separated, ended-separated}
 use Rattle.sound.proofs.Parts.{drop-sound, deassign-sound, revoke-sound, active-fits, assigned-fits, pair-fits}
+use Rattle.links.proofs.Links.{linkable-is, unlinkable-is}
 use Rattle.roles.specs.Request.{Ask, decide}
-use Rattle.roles.specs.Roles.{Request, opens, closes, starts, ends, activates, drops, assigns, deassigns, grants, revokes, separates, isCode, inRange, carriesBadPair, decode, known, rolesAllow, allowed, changed}
+use Rattle.roles.specs.Roles.{Request, opens, closes, starts, ends, activates, drops, assigns, deassigns, grants, revokes, separates, links, unlinks, isCode, inRange, carriesBadPair, decode, known, rolesAllow, allowed, changed}
 use Rattle.roles.specs.Guard.{served, checked, roleStep, allowedSound, soundStep}
 use Rattle.roles.specs.Served.{Ranged}
 use Rattle.roles.proofs.Serving.{served-known, served-unknown}
@@ -52,6 +53,9 @@ allowed-same S f (deassigns u r) h = sym (deassign-sound S f u r (h .0)) ∙ sou
 allowed-same S f (grants r x o) h = unbroken _ (same-separated S _ (f .is-separated) refl refl refl refl)
 allowed-same S f (revokes r x o) h = sym (revoke-sound S f r x o (h .1) (h .2)) ∙ sound-is _
 allowed-same S f (separates n m b) h = sym (true-and _ (new-set S f n m b) ∙ pair-fits S (f .is-separated) n m b (h .0) (h .1))
+allowed-same S f (links r q) h = linkable-is S f r q
+allowed-same S f (unlinks r q) h =
+    unlinkable-is S f r q (h .0) (h .1) ∙ ap (λ (b : Bool). has (S .direct r) q and b) (sound-is _) ∙ sym (and-assoc (has (S .direct r) q) _ _)
 
 -- two tests that agree on a request that meets no refusal
 module _ (test test′ : State → Request → Bool) (t : List ℕ) where

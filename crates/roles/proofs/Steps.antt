@@ -4,9 +4,9 @@ use mathlib.Core.Path.{_≡_, refl, sym, ap, ap₂, _∙_}
 use mathlib.Core.Bool.{Bool, true, false, not}
 use mathlib.Core.List.{List}
 use native.Mathlib.Omega.{arith}
-use Rattle.bits.specs.Words.{_and_, _with_}
+use Rattle.bits.specs.Words.{_and_, has, _with_}
 use Rattle.bits.specs.Sets.{_without_}
-use Rattle.bits.proofs.Truth.{by-truth}
+use Rattle.bits.proofs.Truth.{by-truth, and-assoc}
 use Rattle.bits.proofs.Members.{each-cong}
 use Rattle.table.specs.State.{State}
 use Rattle.table.specs.Separation.{separated}
@@ -14,18 +14,24 @@ use Rattle.table.specs.Sound.{rolesSound, sound, Sound}
 use Rattle.table.specs.Table.{isTable, encode}
 use Rattle.table.specs.Reading.{state}
 use Rattle.table.proofs.Sound.{sound-elim, sound-intro, sound-is}
-use Rattle.table.proofs.Agree.{Agree, agree-sym, idle-agree, permission-agree, authorised-agree, may-activate-agree, effective-agree, sound-agree, agree-sound, upd-agree, agree-with-holds, agree-with-active, agree-with-owner, agree-with-assigned, agree-with-granted, agree-with-set, separated-agree}
+use Rattle.table.proofs.Agree.{Agree, agree-sym, senior-agree, idle-agree, permission-agree, authorised-agree, may-activate-agree, effective-agree, sound-agree, agree-sound, upd-agree, agree-with-holds, agree-with-active, agree-with-owner, agree-with-assigned, agree-with-granted, agree-with-set, agree-with-direct, separated-agree}
 use Rattle.table.proofs.Encode.{state-encode, encode-cong}
 use Rattle.sound.specs.Answers.{isSound}
 use Rattle.sound.proofs.Answers.{sound-state, sound-table, shown-sound}
 use Rattle.roles.specs.Request.{Ask, Outcome, refuse, decide}
-use Rattle.roles.specs.Roles.{Request, opens, closes, starts, ends, activates, drops, assigns, deassigns, grants, revokes, separates, isCode, inRange, carriesBadPair, decode, known, rolesAllow, allowed, changed}
+use Rattle.roles.specs.Roles.{Request, opens, closes, starts, ends, activates, drops, assigns, deassigns, grants, revokes, separates, links, unlinks, isCode, inRange, carriesBadPair, decode, known, rolesAllow, allowed, changed}
 use Rattle.roles.specs.Guard.{roleStep}
 use Rattle.roles.specs.Served.{Ranged}
 use Rattle.roles.proofs.Serving.{decide-yes, decide-no, served-known, served-unknown}
 use Rattle.roles.proofs.Codes.{is-code-elim, ranged}
 use Rattle.roles.proofs.Guarding.{checked-code, checked-argument, checked-pair, checked-served, role-step-short, role-step-unsound, role-step-sound}
 use Rattle.roles.proofs.Keeping.{changed-sound}
+
+pub answer-of : {A : Type 0} {o o′ : Outcome A} → o ≡ o′ → o .answer ≡ o′ .answer
+answer-of {A} e = ap (λ (p : Outcome A). p .answer) e
+
+pub state-of : {A : Type 0} {o o′ : Outcome A} → o ≡ o′ → o .state ≡ o′ .state
+state-of {A} e = ap (λ (p : Outcome A). p .state) e
 
 -- ---- on any list
 
@@ -66,6 +72,22 @@ module _ (t : List ℕ) (q : Ask) where
       ∙ checked-served allowed t q (p .code) (p .range) (p .pair)
       ∙ served-known allowed t (decode q) (p .is-known)
 
+  pub allowed-yes : Passed t q → allowed (state t) (decode q) ≡ true → roleStep t q .answer ≡ 1
+  allowed-yes p a = answer-of (decided p ∙ decide-yes 1 1 _ t a)
+
+  pub yes-allowed : Passed t q → roleStep t q .answer ≡ 1 → allowed (state t) (decode q) ≡ true
+  yes-allowed p e =
+      by-truth (allowed (state t) (decode q)) (λ a. a)
+      (λ a. let z = sym (answer-of (decided p ∙ decide-no 1 1 _ t a)) ∙ e in absurd (omega arith))
+
+  -- a request answered yes was allowed, and leaves the changed state
+  pub after-yes : {A : Type 0} → roleStep t q .answer ≡ 1
+      → (Passed t q → allowed (state t) (decode q) ≡ true → roleStep t q .state ≡ encode (changed (state t) (decode q)) → A) → A
+  after-yes e f =
+      by-step
+      (λ n h z. let k = sym (answer-of z) ∙ e in absurd (omega arith))
+      (λ p. let a = yes-allowed p e in f p a (state-of (decided p ∙ decide-yes 1 1 _ t a)))
+
   pub in-reach : Passed t q → Ranged (decode q)
   in-reach p = let k = is-code-elim q (p .code) in ranged (q .code) (q .a) (q .b) (q .c) (k .0) (k .1) (p .range) (p .pair)
 
@@ -76,7 +98,7 @@ module _ (t : List ℕ) (q : Ask) where
       (λ n h e. ap (λ (o : Outcome (List ℕ)). isSound (o .state)) e ∙ s)
       (λ p. by-truth (allowed (state t) (decode q))
       (λ a.
-      shown-sound (changed (state t) (decode q)) (ap (λ (o : Outcome (List ℕ)). o .state) (decided p ∙ decide-yes 1 1 _ t a))
+      shown-sound (changed (state t) (decode q)) (state-of (decided p ∙ decide-yes 1 1 _ t a))
       ∙ sound-intro _ (changed-sound (state t) (sound-elim (state t) (p .is-sound)) (decode q) (in-reach p) (p .is-known) a))
       (λ a. ap (λ (o : Outcome (List ℕ)). isSound (o .state)) (decided p ∙ decide-no 1 1 _ t a) ∙ s))
 
@@ -96,6 +118,8 @@ module _ {S S′ : State} (a : Agree S S′) where
   changed-agree (grants r x o) h = agree-with-granted a x o (ap (λ (w : ℕ). w with r) (a .granted x o (h .1) (h .2)))
   changed-agree (revokes r x o) h = agree-with-granted a x o (ap (λ (w : ℕ). w without r) (a .granted x o (h .1) (h .2)))
   changed-agree (separates n m b) h = agree-with-set a n refl refl
+  changed-agree (links r q) h = agree-with-direct a r (ap (λ (w : ℕ). w with q) (a .direct r (h .0)))
+  changed-agree (unlinks r q) h = agree-with-direct a r (ap (λ (w : ℕ). w without q) (a .direct r (h .0)))
 
   apart : (r : Request) → Ranged r → separated (changed S r) ≡ separated (changed S′ r)
   apart r h = separated-agree (changed-agree r h)
@@ -118,6 +142,11 @@ module _ {S S′ : State} (a : Agree S S′) where
   allowed-agree f (grants r x o) h = ap₂ _and_ refl (apart (grants r x o) h)
   allowed-agree f (revokes r x o) h = sound-after (revokes r x o) h
   allowed-agree f (separates n m b) h = sound-after (separates n m b) h
+  allowed-agree f (links r q) h = ap₂ _and_ (ap₂ _and_ refl (ap not (senior-agree a q r (h .1)))) (apart (links r q) h)
+  allowed-agree f (unlinks r q) h =
+      and-assoc (has (S .direct r) q) _ _
+      ∙ ap₂ _and_ (ap (λ (w : ℕ). has w q) (a .direct r (h .0))) (sound-after (unlinks r q) h)
+      ∙ sym (and-assoc (has (S′ .direct r) q) _ _)
 
   pub known-agree : (r : Request) → Ranged r → known S r ≡ known S′ r
   unfolding known
@@ -132,6 +161,8 @@ module _ {S S′ : State} (a : Agree S S′) where
   known-agree (grants r x o) h = permission-agree a x o (h .1)
   known-agree (revokes r x o) h = permission-agree a x o (h .1)
   known-agree (separates n m b) h = refl
+  known-agree (links r q) h = refl
+  known-agree (unlinks r q) h = refl
 
 -- a request on the table of a sound state, with a code and arguments in range and no pair of error 21, that names a permission
 -- where it grants or revokes

@@ -1,7 +1,7 @@
 -- What is claimed of the role guard, each as the answer to a question. proofs/Claims.antt proves them.
 use mathlib.Core.Logic.{_↔_}
 use lib.ListN.{set}
-use Rattle.bits.specs.Words.{ℕ, suc, _+_, _^_, _≤_, _<_, _≡_, Bool, true, false, not, List, [], _∷_, eqb, _and_, if_then_else_, has}
+use Rattle.bits.specs.Words.{ℕ, suc, _+_, _^_, _<_, _≡_, Bool, true, false, not, List, [], _∷_, eqb, _and_, if_then_else_, has}
 use Rattle.table.specs.State.{State}
 use Rattle.table.specs.Authority.{senior, permission, idle, Authorised}
 use Rattle.table.specs.Separation.{mask, bound, setsEmpty, Fewer, Separated}
@@ -10,7 +10,7 @@ use Rattle.table.specs.Table.{isTable}
 use Rattle.table.specs.Reading.{word, ownerAt, activeAt, state}
 use Rattle.sound.specs.Answers.{isSound}
 use Rattle.roles.specs.Request.{Ask, ask, Outcome, refuse}
-use Rattle.roles.specs.Roles.{Request, opens, closes, starts, ends, activates, drops, assigns, deassigns, grants, revokes, separates, isCode, inRange, carriesBadPair, decode, rolesAllow, known}
+use Rattle.roles.specs.Roles.{Request, opens, closes, starts, ends, activates, drops, assigns, deassigns, grants, revokes, separates, links, unlinks, isCode, inRange, carriesBadPair, decode, rolesAllow, known}
 use Rattle.roles.specs.Guard.{checked, roleStep, soundStep}
 use Rattle.roles.specs.Source.{Sigma, sigma, tauOpen, tauClose, Same}
 
@@ -31,8 +31,8 @@ KeptSound = (t : List ℕ) (qs : List Ask) → isSound t ≡ true → isSound (a
 abbrev pub KeptApart : Type 0
 KeptApart = (t : List ℕ) (qs : List Ask) → isSound t ≡ true → Separated (state (after t qs))
 
--- Do the sets change anything where none is in use? Not one answer or word, of a list of any length: there a request of code 1
--- to 10 comes to what it comes to in the guard of 01, which knows no sets.
+-- Do the sets change anything where none is in use? Not one answer or word, of a list of any length: there every request but codes
+-- 11 and 12 comes to what it comes to in the guard of 01 with the links of 02, S-5, which knows no sets.
 unfoldable pub plainStep : List ℕ → Ask → Outcome (List ℕ)
 plainStep t q =
     if not (isTable t) then refuse 12 t else
@@ -40,7 +40,7 @@ plainStep t q =
     checked rolesAllow t q
 
 abbrev pub WithoutSets : Type 0
-WithoutSets = (t : List ℕ) (q : Ask) → setsEmpty (state t) ≡ true → q .code ≤ 10 → roleStep t q ≡ plainStep t q
+WithoutSets = (t : List ℕ) (q : Ask) → setsEmpty (state t) ≡ true → (q .code ≡ 11 → ⊥) → (q .code ≡ 12 → ⊥) → roleStep t q ≡ plainStep t q
 
 -- Does it matter that `serve` leaves the soundness test out? Not on a sound table.
 abbrev pub ServedSame : Type 0
@@ -80,7 +80,7 @@ StartWrites =
     (t : List ℕ) (s u roles : ℕ) → roleStep t (ask 3 s u roles) .answer ≡ 1
     → roleStep t (ask 3 s u roles) .state ≡ set (set t (ownerAt s) (suc u)) (activeAt s) roles
 
--- what the request adds is there, or what it removes is absent
+-- what the request adds is there, or what it removes is absent; an absent link is no to code 14 (02, S-5)
 unfoldable pub idempotent : State → Request → Bool
 idempotent S (opens s o x) = has (S .holds s x) o
 idempotent S (closes s o x) = not (has (S .holds s x) o)
@@ -93,6 +93,8 @@ idempotent S (deassigns u r) = not (has (S .assigned u) r)
 idempotent S (grants r x o) = has (S .granted x o) r
 idempotent S (revokes r x o) = not (has (S .granted x o) r)
 idempotent S (separates n m b) = eqb (mask S n) m and eqb (bound S n) b
+idempotent S (links r q) = has (S .direct r) q
+idempotent S (unlinks r q) = false
 
 -- 01: "What is there already may be added again, and what is absent removed, with yes and no change."
 pub record NoChange (t : List ℕ) (o : Outcome (List ℕ)) : Type 0 where

@@ -7,8 +7,9 @@ use Rattle.table.specs.Sound.{sound}
 use Rattle.table.specs.Table.{isTable, encode}
 use Rattle.table.specs.Reading.{state}
 use Rattle.sound.specs.Answers.{openingsFit, sessionsFit, pairFits, setsFit, pairHolds}
+use Rattle.links.specs.Links.{linkable, unlinkable}
 use Rattle.roles.specs.Request.{Ask, Outcome, refuse, decide}
-use Rattle.roles.specs.Roles.{Request, opens, closes, starts, ends, activates, drops, assigns, deassigns, grants, revokes, separates, isCode, inRange, carriesBadPair, decode, known, allowed, changed}
+use Rattle.roles.specs.Roles.{Request, opens, closes, starts, ends, activates, drops, assigns, deassigns, grants, revokes, separates, links, unlinks, isCode, inRange, carriesBadPair, decode, known, allowed, changed}
 
 -- refusal 17, then yes or no by the test given; yes or no spends 1
 unfoldable pub served : (State → Request → Bool) → List ℕ → Request → Outcome (List ℕ)
@@ -46,6 +47,8 @@ allowedSound S (deassigns u r) = sessionsFit (changed S (deassigns u r)) u
 allowedSound S (grants r x o) = true
 allowedSound S (revokes r x o) = pairFits (changed S (revokes r x o)) x o
 allowedSound S (separates n roles bound) = pairHolds S n roles bound
+allowedSound S (links r q) = linkable S r q
+allowedSound S (unlinks r q) = unlinkable S r q
 
 -- a role request without the soundness test: on a sound table it is `roleStep` (Claims)
 unfoldable pub soundStep : List ℕ → Ask → Outcome (List ℕ)

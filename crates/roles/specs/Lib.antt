@@ -5,4 +5,5 @@ pub mod Guard
 pub mod Answer
 pub mod Source
 pub mod Claims
+pub mod Seniority
 pub mod Served

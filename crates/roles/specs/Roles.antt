@@ -1,10 +1,11 @@
 -- The role requests: the table of 01 ("Role requests"), a line for each of codes 1 to 10, start with its roles chosen (02, S-1);
--- and the two that replace a separation set, codes 11 and 12 (02, S-4).
-use Rattle.bits.specs.Words.{ℕ, suc, _+_, _-_, Bool, true, not, List, [], _∷_, eqb, leb, getD, _and_, _or_, upd, _with_}
+-- the two that replace a separation set, codes 11 and 12 (02, S-4); and the two that make and take away a link of seniority,
+-- codes 13 and 14 (02, S-5).
+use Rattle.bits.specs.Words.{ℕ, suc, _+_, _-_, Bool, true, not, List, [], _∷_, eqb, leb, getD, _and_, _or_, upd, has, _with_}
 use Rattle.bits.specs.Sets.{each, _without_}
 use Rattle.table.specs.State.{State}
-use Rattle.table.specs.Authority.{permission, idle, authorised, mayActivate, effective}
-use Rattle.table.specs.Changes.{withAssigned, withGranted, withOwner, withActive, withHolds, withSet}
+use Rattle.table.specs.Authority.{senior, permission, idle, authorised, mayActivate, effective}
+use Rattle.table.specs.Changes.{withAssigned, withGranted, withOwner, withActive, withHolds, withSet, withDirect}
 use Rattle.table.specs.Separation.{badPair, separated}
 use Rattle.table.specs.Sound.{rolesSound}
 use Rattle.roles.specs.Request.{Ask, within}
@@ -17,12 +18,13 @@ pub data Request : Type 0 where
   assigns deassigns : (u r : ℕ) → Request
   grants revokes : (r x o : ℕ) → Request
   separates : (n roles bound : ℕ) → Request
+  links unlinks : (r q : ℕ) → Request
 
 -- ---- codes and arguments
 
--- the code is 1 to 12
+-- the code is 1 to 14
 unfoldable pub isCode : Ask → Bool
-isCode q = leb 1 (q .code) and leb (q .code) 12
+isCode q = leb 1 (q .code) and leb (q .code) 14
 
 -- the largest value of each argument, a row for each code from 1 on; one that is not listed must be 0, and the roles of a start
 -- and the roles and the bound of a set are any 64-bit numbers
@@ -40,6 +42,8 @@ limits =
     ∷ (63 ∷ 7 ∷ 63 ∷ [])
     ∷ (15 ∷ 18446744073709551615 ∷ 18446744073709551615 ∷ [])
     ∷ (15 ∷ 18446744073709551615 ∷ 18446744073709551615 ∷ [])
+    ∷ (63 ∷ 63 ∷ 0 ∷ [])
+    ∷ (63 ∷ 63 ∷ 0 ∷ [])
     ∷ []
 
 unfoldable pub inRange : Ask → Bool
@@ -49,7 +53,7 @@ inRange q = within (getD limits (q .code - 1) []) q
 unfoldable pub carriesBadPair : Ask → Bool
 carriesBadPair q = (eqb (q .code) 11 or eqb (q .code) 12) and badPair (q .b) (q .c)
 
--- the request of a code from 1 to 12; static set n is pair n, dynamic set n is pair 16 + n
+-- the request of a code from 1 to 14; static set n is pair n, dynamic set n is pair 16 + n
 unfoldable pub decode : Ask → Request
 decode q =
     getD
@@ -65,9 +69,11 @@ decode q =
     ∷ revokes (q .a) (q .b) (q .c)
     ∷ separates (q .a) (q .b) (q .c)
     ∷ separates (16 + q .a) (q .b) (q .c)
+    ∷ links (q .a) (q .b)
+    ∷ unlinks (q .a) (q .b)
     ∷ [])
     (q .code - 1)
-    (separates (q .a) (q .b) (q .c))
+    (unlinks (q .a) (q .b))
 
 -- ---- what each request does
 
@@ -84,8 +90,10 @@ changed S (deassigns u r) = withAssigned S u (S .assigned u without r)
 changed S (grants r x o) = withGranted S x o (S .granted x o with r)
 changed S (revokes r x o) = withGranted S x o (S .granted x o without r)
 changed S (separates n roles bound) = withSet S n roles bound
+changed S (links r q) = withDirect S r (S .direct r with q)
+changed S (unlinks r q) = withDirect S r (S .direct r without q)
 
--- the answer is yes, by the rules of 01 and where no set is looked at
+-- the answer is yes, by the rules of 01 and of 02, S-5, and where no set is looked at
 unfoldable pub rolesAllow : State → Request → Bool
 rolesAllow S (opens s o x) = effective S s x o
 rolesAllow S (closes s o x) = true
@@ -98,8 +106,11 @@ rolesAllow S (deassigns u r) = rolesSound (changed S (deassigns u r))
 rolesAllow S (grants r x o) = true
 rolesAllow S (revokes r x o) = rolesSound (changed S (revokes r x o))
 rolesAllow S (separates n roles bound) = rolesSound (changed S (separates n roles bound))
+rolesAllow S (links r q) = not (eqb r q) and not (senior S q r)
+rolesAllow S (unlinks r q) = has (S .direct r) q and rolesSound (changed S (unlinks r q))
 
--- 02, S-4: and no set would be broken. Of a sound state only a start, an activation, an assignment and a new set can break one.
+-- 02, S-4: and no set would be broken. Of a sound state only a start, an activation, an assignment, a new set and a link can
+-- break one.
 unfoldable pub allowed : State → Request → Bool
 allowed S r = rolesAllow S r and separated (changed S r)
 
@@ -116,3 +127,5 @@ known S (deassigns u r) = true
 known S (grants r x o) = permission S x o
 known S (revokes r x o) = permission S x o
 known S (separates n roles bound) = true
+known S (links r q) = true
+known S (unlinks r q) = true

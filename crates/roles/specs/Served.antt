@@ -6,7 +6,7 @@ use Rattle.table.specs.Separation.{GoodPair}
 use Rattle.table.specs.Changes.{withHolds}
 use Rattle.table.specs.Reading.{state}
 use Rattle.table.specs.Table.{tableLength, encode}
-use Rattle.roles.specs.Roles.{Request, opens, closes, starts, ends, activates, drops, assigns, deassigns, grants, revokes, separates, changed}
+use Rattle.roles.specs.Roles.{Request, opens, closes, starts, ends, activates, drops, assigns, deassigns, grants, revokes, separates, links, unlinks, changed}
 use Rattle.roles.specs.Guard.{allowedSound}
 
 -- the users, roles, objects, sessions, modes and sets that a request names are there, and no pair is one of error 21
@@ -22,6 +22,8 @@ Ranged (deassigns u r) = (u < 64) × (r < 64)
 Ranged (grants r x o) = (r < 64) × (x < 8) × (o < 64)
 Ranged (revokes r x o) = (r < 64) × (x < 8) × (o < 64)
 Ranged (separates n roles bound) = (n < 32) × GoodPair roles bound
+Ranged (links r q) = (r < 64) × (q < 64)
+Ranged (unlinks r q) = (r < 64) × (q < 64)
 
 -- a table and a request on what is there
 pub record Fit (t : List ℕ) (q : Request) : Type 0 where

@@ -1,4 +1,4 @@
-// The role guard: twelve requests on a lent table.
+// The role guard: fourteen requests on a lent table.
 use table::layout::ACTIVE;
 use table::layout::ASSIGNED;
 use table::layout::GRANTED;
@@ -235,7 +235,7 @@ fn separate(t: &mut [u64], n: usize, roles: u64, bound: u64) -> bool
 
 // The largest value of each argument, a row for each code from 1 on; one that is not listed must be 0, and the roles of a start
 // and the roles and the bound of a set are any 64-bit numbers.
-const LIMITS: [[u64; 3]; 12] = [
+const LIMITS: [[u64; 3]; 14] = [
     [31, 63, 7],
     [31, 63, 7],
     [31, 63, 18446744073709551615],
@@ -248,6 +248,8 @@ const LIMITS: [[u64; 3]; 12] = [
     [63, 7, 63],
     [15, 18446744073709551615, 18446744073709551615],
     [15, 18446744073709551615, 18446744073709551615],
+    [63, 63, 0],
+    [63, 63, 0],
 ];
 
 // Whether each of three arguments is at most its largest value, whatever the code.
@@ -337,6 +339,32 @@ fn serve_set(
     }
 }
 
+// Role r is put above q by code 13, and no longer directly above it by code 14.
+fn relink(t: &mut [u64], code: u64, r: usize, q: usize) -> bool
+    requires { ⌜ (13 ≤ code) × (code ≤ 14) × Fit (now t) (decode (ask code r q 0)) ⌝ }
+    ensures { λ a. ⌜ Served (now (t .entry)) (now (t .exit)) a (decode (ask code r q 0)) ⌝ }
+{
+    if code == 13 {
+        return links::link(t, r, q);
+    }
+    links::unlink(t, r, q)
+}
+
+// The request of code 13 or 14 with its row of LIMITS, on a table of the right length.
+fn serve_link(t: &mut [u64], code: u64, largest: [u64; 3], r: u64, q: u64, c: u64) -> Answer
+    requires { ⌜ (length (now t) ≡ tableLength) × (13 ≤ code) × (code ≤ 14) × (largest ≡ getD limits (code - 1) []) ⌝ }
+    ensures answer { λ a. ⌜ numberOf a ≡ soundStep (now (t .entry)) (ask code r q c) .answer ⌝ }
+    ensures table { λ a. ⌜ now (t .exit) ≡ soundStep (now (t .entry)) (ask code r q c) .state ⌝ }
+{
+    if !within(largest, r, q, c) {
+        return Answer::Refused(Refusal::BadArgument);
+    }
+    match relink(t, code, r as usize, q as usize) {
+        true => Answer::Yes,
+        false => Answer::No,
+    }
+}
+
 // A role request on a table that is known to be sound: `request` without the soundness test. (The code is looked at once, and
 // each row is read by a constant index, so that the table of rows is not built on the stack at each call.)
 pub fn serve(t: &mut [u64], code: u64, a: u64, b: u64, c: u64) -> Answer
@@ -360,6 +388,8 @@ pub fn serve(t: &mut [u64], code: u64, a: u64, b: u64, c: u64) -> Answer
         10 => serve_code(t, 10, rows[9], a, b, c),
         11 => serve_set(t, 11, rows[10], sound::STATIC, a, b, c),
         12 => serve_set(t, 12, rows[11], sound::DYNAMIC, a, b, c),
+        13 => serve_link(t, 13, rows[12], a, b, c),
+        14 => serve_link(t, 14, rows[13], a, b, c),
         _ => Answer::Refused(Refusal::BadCode),
     }
 }

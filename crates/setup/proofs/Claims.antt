@@ -16,15 +16,12 @@ use Rattle.table.proofs.Sound.{sound-intro}
 use Rattle.table.proofs.Table.{is-table, table-length}
 use Rattle.sound.proofs.Answers.{shown-sound}
 use Rattle.roles.specs.Request.{Outcome, refuse, accept}
-use Rattle.setup.specs.Closure.{closure, acyclic}
+use Rattle.closure.specs.Closure.{closure, acyclic}
 use Rattle.setup.specs.SetUp.{fresh, roleSetUp}
-use Rattle.setup.specs.Claims.{Cycle, ClosureMeans, CycleRefused, SetUpSound, SetUpRefused, OldContents}
-use Rattle.setup.proofs.Closure.{closure-reaches, reaches-closure}
+use Rattle.setup.specs.Claims.{Cycle, CycleRefused, SetUpSound, SetUpRefused, OldContents}
+use Rattle.closure.proofs.Closure.{closure-reaches, reaches-closure}
 use Rattle.setup.proofs.Fresh.{fresh-sound}
 use Rattle.setup.proofs.SetUp.{set-up-short, set-up-lists, set-up-cycle, set-up-accepted}
-
-pub closure-means : ClosureMeans
-closure-means direct r q hr hq = (closure-reaches direct r q hr hq, reaches-closure direct r q hr hq)
 
 -- what an accepted set-up has passed
 record Passed (t direct permissions : List ℕ) : Type 0 where
@@ -50,7 +47,7 @@ module _ (t direct permissions : List ℕ) where
       (λ l. f 18 (λ z. omega arith) (set-up-lists t direct permissions i l)))
       (λ i. f 12 (λ z. omega arith) (set-up-short t direct permissions i))
 
-  accepted : Passed t direct permissions → outcome ≡ accept (encode (fresh (closure direct) permissions))
+  accepted : Passed t direct permissions → outcome ≡ accept (encode (fresh direct permissions))
   accepted p = set-up-accepted t direct permissions (p .table) (p .long) (p .long-permissions) (p .no-cycle)
 
   answers : {o o′ : Outcome (List ℕ)} → o ≡ o′ → o .answer ≡ o′ .answer
@@ -90,7 +87,7 @@ set-up-sound t direct permissions a =
     by-outcome t direct permissions
     (λ n k e. absurd (k (sym (answers t direct permissions e) ∙ a)))
     (λ p.
-    shown-sound (fresh (closure direct) permissions) (ap (λ (o : Outcome (List ℕ)). o .state) (accepted t direct permissions p))
+    shown-sound (fresh direct permissions) (ap (λ (o : Outcome (List ℕ)). o .state) (accepted t direct permissions p))
     ∙ sound-intro _ (fresh-sound direct permissions (p .no-cycle)))
 
 pub set-up-refused : SetUpRefused

@@ -1,58 +1,79 @@
 -- The table that an accepted set-up writes, and that it is sound. Assumes nothing.
 use Prim.Native.Nat.{ℕ, _≤_, _<_}
-use mathlib.Core.Path.{_≡_, refl, ap, _∙_}
+use mathlib.Core.Path.{_≡_, refl, sym, ap, _∙_}
 use mathlib.Core.Bool.{true}
 use mathlib.Core.List.{List}
 use native.Mathlib.Omega.{arith}
 use lib.ListN.{length, getD}
 use borrow.Author.Tests.{eqb-true}
-use Rattle.bits.proofs.Truth.{clash, implies-elim}
+use Rattle.bits.specs.Words.{tabulate}
+use Rattle.bits.specs.Sets.{_without_}
+use Rattle.bits.proofs.Truth.{clash, is-false, implies-elim}
 use Rattle.bits.proofs.Below.{all-intro, all-elim}
-use Rattle.bits.proofs.Word.{has-zero}
+use Rattle.bits.proofs.Word.{has-zero, without-other}
 use Rattle.bits.proofs.Members.{each-elim}
+use Rattle.bits.proofs.Tabulate.{length-tabulate, getD-tabulate}
 use Rattle.table.specs.Sound.{Sound}
-use Rattle.table.specs.Reading.{permittedAt, assignedAt, grantedAt, ownerAt, activeAt, holdsAt, setsAt, word}
+use Rattle.table.specs.Reading.{permittedAt, assignedAt, grantedAt, ownerAt, activeAt, holdsAt, setsAt, directAt, word}
 use Rattle.table.specs.Table.{tableLength, encode}
 use Rattle.table.specs.Answers.{overlay, clearedFrom}
+use Rattle.table.proofs.Seniority.{closure-linked}
 use Rattle.table.proofs.Separation.{separated-elim, empty-separated}
 use Rattle.table.proofs.Encode.{shown}
 use Rattle.table.proofs.Answers.{length-cleared, cleared-before, cleared-after, length-overlay, overlay-at, overlay-before}
-use Rattle.setup.specs.Closure.{closure, acyclic}
+use Rattle.closure.specs.Closure.{closure, acyclic}
 use Rattle.setup.specs.SetUp.{fresh}
-use Rattle.setup.proofs.Closure.{closure-reflexive, closure-transitive}
+use Rattle.closure.proofs.Closure.{closure-reflexive, closure-transitive, closure-length, closure-own}
 
-module _ (t rows permissions : List ℕ) (e : length t ≡ tableLength) (er : length rows ≡ 64) (ep : length permissions ≡ 8) where
+-- the direct juniors without own bits
+abbrev pub given : List ℕ → List ℕ
+given direct = tabulate 64 (λ r. getD direct r 0 without r)
+
+module _ (t direct permissions : List ℕ) (e : length t ≡ tableLength) (ep : length permissions ≡ 8) where
   abbrev first : List ℕ
-  first = overlay t 0 rows
+  first = overlay t 0 (closure direct)
 
   abbrev second : List ℕ
   second = overlay first 64 permissions
 
+  abbrev third : List ℕ
+  third = clearedFrom second 72
+
   abbrev last : List ℕ
-  last = clearedFrom second 72
+  last = overlay third 1032 (given direct)
 
   l1 : length first ≡ tableLength
-  l1 = length-overlay t 0 rows ∙ e
+  l1 = length-overlay t 0 (closure direct) ∙ e
 
   l2 : length second ≡ tableLength
   l2 = length-overlay first 64 permissions ∙ l1
 
-  zero-at : (i : ℕ) → 72 ≤ i → i < tableLength → word last i ≡ 0
-  zero-at i h l = cleared-after second 72 i h (let k = l2 in omega arith)
+  l3 : length third ≡ tableLength
+  l3 = length-cleared second 72 ∙ l2
 
-  pub written-fresh : last ≡ encode (fresh rows permissions)
+  before-direct : (i : ℕ) → i < 1032 → word last i ≡ word third i
+  before-direct i h = overlay-before third 1032 (given direct) i h (let k = l3 in omega arith)
+
+  zero-at : (i : ℕ) → 72 ≤ i → i < 1032 → word last i ≡ 0
+  zero-at i h l = before-direct i l ∙ cleared-after second 72 i h (let k = l2 in omega arith)
+
+  pub written-fresh : last ≡ encode (fresh direct permissions)
   unfolding fresh
   written-fresh =
-      shown last _ (length-cleared second 72 ∙ l2) (record {
+      let er = closure-length direct in
+      let eg = length-tabulate 64 (λ r. getD direct r 0 without r) in
+      shown last _ (length-overlay third 1032 (given direct) ∙ l3) (record {
         juniors = λ r h.
             let k = l2 in let j = l1 in
-            cleared-before second 72 r (omega arith) (omega arith)
+            before-direct r (omega arith)
+            ∙ cleared-before second 72 r (omega arith) (omega arith)
             ∙ overlay-before first 64 permissions r h (omega arith)
-            ∙ overlay-at t 0 rows r (omega arith) (omega arith) (omega arith)
-            ∙ ap (λ (i : ℕ). getD rows i 0) (omega arith);
+            ∙ overlay-at t 0 (closure direct) r (omega arith) (omega arith) (omega arith)
+            ∙ ap (λ (i : ℕ). getD (closure direct) i 0) (omega arith);
         permitted = λ x h.
             let k = l2 in let j = l1 in
-            cleared-before second 72 (permittedAt x) (omega arith) (omega arith)
+            before-direct (permittedAt x) (omega arith)
+            ∙ cleared-before second 72 (permittedAt x) (omega arith) (omega arith)
             ∙ overlay-at first 64 permissions (permittedAt x) (omega arith) (omega arith) (omega arith)
             ∙ ap (λ (i : ℕ). getD permissions i 0) (omega arith);
         assigned = λ u h. zero-at (assignedAt u) (omega arith) (omega arith);
@@ -61,10 +82,15 @@ module _ (t rows permissions : List ℕ) (e : length t ≡ tableLength) (er : le
         active = λ s h. zero-at (activeAt s) (omega arith) (omega arith);
         holds = λ s x h k. zero-at (holdsAt s x) (omega arith) (omega arith);
         sets = λ i h. zero-at (setsAt i) (omega arith) (omega arith);
+        direct = λ r h.
+            let k = l3 in
+            overlay-at third 1032 (given direct) (directAt r) (omega arith) (omega arith) (omega arith)
+            ∙ ap (λ (i : ℕ). getD (given direct) i 0) (omega arith)
+            ∙ getD-tabulate 64 (λ r. getD direct r 0 without r) 0 r h;
       })
 
 -- seniority is the closure's, and everything else is empty
-pub fresh-sound : (direct permissions : List ℕ) → acyclic (closure direct) ≡ true → Sound (fresh (closure direct) permissions)
+pub fresh-sound : (direct permissions : List ℕ) → acyclic (closure direct) ≡ true → Sound (fresh direct permissions)
 unfolding fresh acyclic
 fresh-sound direct permissions a = record {
   is-reflexive = λ r h. closure-reflexive direct r h;
@@ -76,5 +102,6 @@ fresh-sound direct permissions a = record {
   idle-no-openings = λ s x hs hx i. refl;
   active-authorised = λ s r hs hr m. clash m (has-zero r);
   openings-effective = λ s x o hs hx ho m. clash m (has-zero o);
+  is-linked = closure-linked _ _ (λ r h. is-false (λ k. without-other (getD direct r 0) r r h k refl)) (λ r h. ap (λ (l : List ℕ). getD l r 0) (sym (closure-own direct)));
   is-separated = separated-elim _ (empty-separated _ (all-intro _ 64 (λ i h. refl)));
 }

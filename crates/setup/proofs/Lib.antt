@@ -1,5 +1,4 @@
 -- The crate's laws, in reading order.
-pub mod Closure
 pub mod Fresh
 pub mod SetUp
 pub mod Claims

@@ -10,7 +10,7 @@ use Rattle.bits.specs.Words.{_and_}
 use Rattle.bits.proofs.Truth.{past, stopped, and-intro}
 use Rattle.table.specs.Table.{isTable, encode}
 use Rattle.roles.specs.Request.{refuse, accept}
-use Rattle.setup.specs.Closure.{closure, acyclic}
+use Rattle.closure.specs.Closure.{closure, acyclic}
 use Rattle.setup.specs.SetUp.{fresh, roleSetUp}
 
 module _ (t direct permissions : List ℕ) where
@@ -32,6 +32,6 @@ module _ (t direct permissions : List ℕ) where
   set-up-cycle i d p a = past _ _ i ∙ past _ _ (both-long d p) ∙ stopped _ _ a
 
   pub set-up-accepted : isTable t ≡ true → length direct ≡ 64 → length permissions ≡ 8 → acyclic (closure direct) ≡ true
-      → roleSetUp t direct permissions ≡ accept (encode (fresh (closure direct) permissions))
+      → roleSetUp t direct permissions ≡ accept (encode (fresh direct permissions))
   unfolding roleSetUp
   set-up-accepted i d p a = past _ _ i ∙ past _ _ (both-long d p) ∙ past _ _ a

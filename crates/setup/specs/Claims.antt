@@ -1,14 +1,10 @@
 -- What is claimed of the role set-up, each as the answer to a question. proofs/Claims.antt proves them.
 use mathlib.Core.Logic.{_↔_}
-use Rattle.bits.specs.Words.{ℕ, _<_, _≡_, true, List, length, getD, has}
+use Rattle.bits.specs.Words.{ℕ, _<_, _≡_, true, List, length}
 use Rattle.table.specs.Table.{tableLength}
 use Rattle.sound.specs.Answers.{isSound}
-use Rattle.setup.specs.Closure.{closure, Reaches}
+use Rattle.closure.specs.Closure.{Reaches}
 use Rattle.setup.specs.SetUp.{roleSetUp}
-
--- Which roles does the set-up put below a role? Exactly those that a chain of direct juniors reaches.
-abbrev pub ClosureMeans : Type 0
-ClosureMeans = (direct : List ℕ) (r q : ℕ) → r < 64 → q < 64 → has (getD (closure direct) r 0) q ≡ true ↔ Reaches direct r q
 
 -- two different roles that reach each other
 pub record Cycle (direct : List ℕ) : Type 0 where

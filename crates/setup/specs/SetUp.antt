@@ -1,15 +1,16 @@
--- The role set-up of 01: refusals 12, 18 and 20 in order, then the closure, the permissions and zero elsewhere. Old
--- contents of the table do not matter.
+-- The role set-up of 01: refusals 12, 18 and 20 in order, then the closure, the permissions, the direct juniors as given but
+-- for own bits (02, S-5) and zero elsewhere. Old contents of the table do not matter.
 use Rattle.bits.specs.Words.{ℕ, not, List, eqb, length, getD, _and_, if_then_else_}
+use Rattle.bits.specs.Sets.{_without_}
 use Rattle.table.specs.State.{State}
 use Rattle.table.specs.Table.{isTable, encode}
 use Rattle.roles.specs.Request.{Outcome, refuse, accept}
-use Rattle.setup.specs.Closure.{closure, acyclic}
+use Rattle.closure.specs.Closure.{closure, acyclic}
 
 -- nobody is assigned or granted anything, all sessions are idle, and no set is in use
 unfoldable pub fresh : List ℕ → List ℕ → State
-fresh rows permissions = record {
-  juniors = λ r. getD rows r 0;
+fresh direct permissions = record {
+  juniors = λ r. getD (closure direct) r 0;
   permitted = λ x. getD permissions x 0;
   assigned = λ u. 0;
   granted = λ x o. 0;
@@ -17,6 +18,7 @@ fresh rows permissions = record {
   active = λ s. 0;
   holds = λ s x. 0;
   sets = λ i. 0;
+  direct = λ r. getD direct r 0 without r;
 }
 
 unfoldable pub roleSetUp : List ℕ → List ℕ → List ℕ → Outcome (List ℕ)
@@ -24,4 +26,4 @@ roleSetUp t direct permissions =
     if not (isTable t) then refuse 12 t else
     if not (eqb (length direct) 64 and eqb (length permissions) 8) then refuse 18 t else
     if not (acyclic (closure direct)) then refuse 20 t else
-    accept (encode (fresh (closure direct) permissions))
+    accept (encode (fresh direct permissions))

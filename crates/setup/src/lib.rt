@@ -2,86 +2,29 @@
 use roles::Answer;
 use roles::Refusal;
 use table::layout::ASSIGNED;
+use table::layout::DIRECT;
 use table::layout::PERMITTED;
 use table::layout::WORDS;
 ghost use mathlib.Core.Path.{_≡_};
-ghost use Prim.Native.Nat.{_<_};
 ghost use lib.ListN.{length, getD};
-ghost use lib.Dec.{eqb};
-ghost use Rattle.bits.specs.Words.{_implies_, if_then_else_, has};
-ghost use Rattle.bits.specs.Sets.{each, join};
+ghost use Rattle.bits.specs.Words.{tabulate};
+ghost use Rattle.bits.specs.Sets.{_without_};
 ghost use Rattle.roles.specs.Answer.{numberOf};
-ghost use Rattle.setup.specs.Closure.{via, closure, acyclic};
 ghost use Rattle.setup.specs.SetUp.{roleSetUp};
 
-// The row of a role that gets what is below k where it has k.
-fn passed_row(row: u64, below: u64, k: usize) -> u64
-    ensures { λ r. ⌜ r ≡ if_then_else_ (has row k) (join row below) row ⌝ }
-{
-    if bits::has(row, k) {
-        return bits::join(row, below);
-    }
-    row
-}
-
-// Every role that has k gets what k has.
-fn pass_through(rows: &mut [u64], k: usize)
-    requires { ⌜ (length (now rows) ≡ 64) × (k < 64) ⌝ }
-    ensures { λ r. ⌜ now (rows .exit) ≡ via k (now (rows .entry)) ⌝ }
-{
-    let below = rows[k];
-    for r in 0..64 {
-        rows[r] = passed_row(rows[r], below, k);
-    }
-}
-
-// The reflexive, transitive closure of 64 words of direct juniors.
-fn closure_of(direct: &[u64]) -> [u64; 64]
+// The direct juniors as given, without own bits.
+fn without_own(direct: &[u64]) -> [u64; 64]
     requires { ⌜ length (now direct) ≡ 64 ⌝ }
-    ensures { λ r. ⌜ r ≡ closure (now (direct .entry)) ⌝ }
+    ensures { λ w. ⌜ w ≡ tabulate 64 (λ r. getD (now (direct .entry)) r 0 without r) ⌝ }
 {
-    let mut rows = [0; 64];
+    let mut words = [0; 64];
     for r in 0..64 {
-        rows[r] = bits::with(direct[r], r);
+        words[r] = bits::without(direct[r], r);
     }
-    for k in 0..64 {
-        pass_through(&mut rows, k);
-    }
-    rows
+    words
 }
 
-// Whether no other role that r has has r.
-fn is_apart(rows: &[u64], r: usize) -> bool
-    requires { ⌜ (length (now rows) ≡ 64) × (r < 64) ⌝ }
-    ensures { λ b. ⌜ b ≡ each (getD (now (rows .entry)) r 0) (λ q. has (getD (now (rows .entry)) q 0) r implies eqb r q) ⌝ }
-{
-    let mut left = rows[r];
-    while left != 0 {
-        let q = bits::lowest(left);
-        left = bits::rest(left);
-        if q != r {
-            if bits::has(rows[q], r) {
-                return false;
-            }
-        }
-    }
-    true
-}
-
-// Whether no two different roles have each other.
-fn is_acyclic(rows: &[u64]) -> bool
-    requires { ⌜ length (now rows) ≡ 64 ⌝ }
-    ensures { λ b. ⌜ b ≡ acyclic (now (rows .entry)) ⌝ }
-{
-    for r in 0..64 {
-        if !is_apart(rows, r) {
-            return false;
-        }
-    }
-    true
-}
-
-// The role set-up: the closure of 64 words of direct juniors, 8 words of permissions, and 0 elsewhere.
+// The role set-up: the closure of 64 words of direct juniors, 8 words of permissions, the direct juniors, and 0 elsewhere.
 pub fn role_setup(t: &mut [u64], direct: &[u64], permissions: &[u64]) -> Answer
     ensures answer { λ r. ⌜ numberOf r ≡ roleSetUp (now (t .entry)) (now (direct .entry)) (now (permissions .entry)) .answer ⌝ }
     ensures table { λ r. ⌜ now (t .exit) ≡ roleSetUp (now (t .entry)) (now (direct .entry)) (now (permissions .entry)) .state ⌝ }
@@ -95,12 +38,14 @@ pub fn role_setup(t: &mut [u64], direct: &[u64], permissions: &[u64]) -> Answer
     if permissions.len() != 8 {
         return Answer::Refused(Refusal::BadListLength);
     }
-    let rows = closure_of(direct);
-    if !is_acyclic(&rows) {
+    let given = without_own(direct);
+    let rows = closure::closure_of(&given);
+    if !closure::is_acyclic(&rows) {
         return Answer::Refused(Refusal::Cycle);
     }
     table::overlay(t, 0, &rows);
     table::overlay(t, PERMITTED, permissions);
     table::clear_from(t, ASSIGNED);
+    table::overlay(t, DIRECT, &given);
     Answer::Yes
 }

@@ -13,7 +13,7 @@ use Rattle.table.specs.Table.{isTable}
 use Rattle.table.specs.Reading.{state}
 use Rattle.table.specs.Answers.{overlay, effectivePermissions}
 use Rattle.table.proofs.Answers.{length-overlay, overlay-at}
-use Rattle.table.proofs.Tabulate.{length-tabulate}
+use Rattle.bits.proofs.Tabulate.{length-tabulate}
 use Rattle.sheetguard.specs.Reading.{told, readable, read}
 
 -- ---- the refusals

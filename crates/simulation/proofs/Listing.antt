@@ -8,8 +8,8 @@ use lib.ListN.{length, getD, set, length-set}
 use lib.Seq.{ext-getD, getD-set-same, getD-set-other}
 use borrow.Author.Tests.{eqb-true, eqb-false, le-leb, lt-leb}
 use Rattle.bits.proofs.Truth.{by-truth, if-true, if-false}
-use Rattle.table.specs.Table.{tabulate}
-use Rattle.table.proofs.Tabulate.{length-tabulate, tabulate-cong}
+use Rattle.bits.specs.Words.{tabulate}
+use Rattle.bits.proofs.Tabulate.{length-tabulate, tabulate-cong}
 use Rattle.roles.specs.Request.{Ask, Outcome, refuse}
 use Rattle.machine.specs.Wall.{Event, trace, final}
 use Rattle.machine.proofs.Tracing.{trace-none, trace-first, final-none, final-first}

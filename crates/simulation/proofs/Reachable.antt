@@ -3,8 +3,9 @@ use Prim.Native.Nat.{ℕ, _<_}
 use mathlib.Core.Path.{_≡_, sym, ap, ap₂, subst, _∙_}
 use mathlib.Core.Bool.{true}
 use mathlib.Core.List.{List}
-use Rattle.table.specs.Table.{tableLength, isTable, tabulate}
-use Rattle.table.proofs.Tabulate.{length-tabulate}
+use Rattle.bits.specs.Words.{tabulate}
+use Rattle.table.specs.Table.{tableLength, isTable}
+use Rattle.bits.proofs.Tabulate.{length-tabulate}
 use Rattle.table.proofs.Table.{is-table}
 use Rattle.sound.specs.Answers.{isSound}
 use Rattle.machine.proofs.Order.{dominates}

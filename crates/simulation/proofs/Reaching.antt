@@ -5,12 +5,11 @@ use mathlib.Core.Bool.{Bool, true}
 use mathlib.Core.List.{List, [], _∷_, _++_}
 use lib.Dec.{eqb}
 use borrow.Author.Tests.{eq-eqb, eqb-true, lt-ltb}
-use Rattle.bits.specs.Words.{_and_, if_then_else_}
+use Rattle.bits.specs.Words.{_and_, if_then_else_, tabulate}
 use Rattle.bits.proofs.Truth.{clash, by-truth, same-truth, if-true, if-false, and-intro, and-left, and-right}
 use Rattle.bits.proofs.Below.{all-intro}
-use Rattle.table.specs.Table.{tabulate}
 use Rattle.table.proofs.Agree.{by-upd, upd-same}
-use Rattle.table.proofs.Tabulate.{length-tabulate, getD-tabulate}
+use Rattle.bits.proofs.Tabulate.{length-tabulate, getD-tabulate}
 use Rattle.roles.specs.Request.{ask, Outcome}
 use Rattle.machine.proofs.Order.{dominates}
 use Rattle.machine.specs.Machine.{Machine, Seat, idle, at, isIdle, mayOpen, withHeld, withSeat, step, begin}

@@ -7,7 +7,7 @@ use native.Mathlib.Omega.{arith}
 use lib.Dec.{eqb}
 use borrow.Author.Tests.{eqb-true, eqb-false}
 use Rattle.bits.proofs.Truth.{by-truth}
-use Rattle.table.specs.Table.{tabulate}
+use Rattle.bits.specs.Words.{tabulate}
 use Rattle.roles.specs.Request.{Ask}
 use Rattle.machine.specs.Machine.{Machine, idle, step, begin}
 use Rattle.machine.specs.Wall.{final}

@@ -1,7 +1,7 @@
 -- A label set-up and a list of label requests in one call. The requests are lent as words, four each: code and three
 -- arguments; the replies go into lent words, two each: answer and figure.
-use Rattle.bits.specs.Words.{ℕ, _+_, _*_, _/_, _%_, Bool, not, List, [], _∷_, eqb, leb, length, getD, _and_, if_then_else_}
-use Rattle.table.specs.Table.{isTable, tabulate}
+use Rattle.bits.specs.Words.{ℕ, _+_, _*_, _/_, _%_, Bool, not, List, [], _∷_, eqb, leb, length, getD, _and_, if_then_else_, tabulate}
+use Rattle.table.specs.Table.{isTable}
 use Rattle.roles.specs.Request.{Ask, ask, Outcome, refuse}
 use Rattle.machine.specs.Machine.{step, begin}
 use Rattle.machine.specs.Wall.{Event, trace, final}

@@ -1,32 +1,33 @@
 -- What the public functions answer, as their code finds it. Assumes nothing.
-use Prim.Native.Nat.{ℕ, suc, _≤_, _<_}
+use Prim.Native.Nat.{ℕ, suc, _+_, _*_, _≤_, _<_}
 use mathlib.Core.Path.{_≡_, sym, ap, ap₂, _∙_}
 use mathlib.Core.Bool.{Bool, true, false}
 use mathlib.Core.List.{List}
-use lib.Dec.{eqb, ltb}
+use native.Mathlib.Omega.{arith}
+use lib.Dec.{eqb, leb, ltb}
 use lib.ListN.{length}
-use borrow.Author.Tests.{eq-eqb, eqb-true, lt-ltb, le-ltb}
-use Rattle.bits.specs.Words.{_and_, _implies_, has, subset, pack}
+use borrow.Author.Tests.{eq-eqb, eqb-true, leb-true, lt-ltb, le-ltb}
+use Rattle.bits.specs.Words.{_and_, _implies_, has, all, subset, pack}
 use Rattle.bits.specs.Sets.{each, overlap}
-use Rattle.bits.proofs.Truth.{clash, is-false, same-truth, and-intro, and-left, and-right, true-and, false-and, and-false, implies-intro, implies-elim}
+use Rattle.bits.proofs.Truth.{clash, by-truth, is-false, same-truth, and-intro, and-left, and-right, true-and, false-and, and-false, and-assoc, implies-intro, implies-elim}
 use Rattle.bits.proofs.Below.{all-intro, all-fails, all-cong}
 use Rattle.bits.proofs.Members.{each-intro, each-elim, each-cong, subset-intro, subset-elim, subset-pack}
 use Rattle.table.specs.State.{State}
-use Rattle.table.specs.Authority.{permission, covers, authorised, effective}
-use Rattle.table.specs.Separation.{separated}
+use Rattle.table.specs.Authority.{permission, covers, authorised, mayActivate, effective}
+use Rattle.table.specs.Separation.{fewer, staticSetsHold, separated}
 use Rattle.table.specs.Sound.{sound, Sound}
 use Rattle.table.specs.Answers.{coveredRoles, openable}
 use Rattle.table.specs.Reading.{state}
 use Rattle.table.specs.Table.{tableLength, isTable, encode}
-use Rattle.table.proofs.Agree.{Agree, authorised-agree, effective-agree, sound-agree}
+use Rattle.table.proofs.Agree.{Agree, authorised-agree, may-activate-agree, effective-agree, sound-agree}
 use Rattle.table.proofs.Encode.{state-encode, encode-length}
 use Rattle.table.proofs.State.{effective-is}
-use Rattle.table.proofs.Separation.{separated-intro}
+use Rattle.table.proofs.Separation.{fewer-cong, separated-intro}
 use Rattle.table.proofs.Sound.{sound-elim}
 use Rattle.table.proofs.Table.{is-table, not-table}
 use Rattle.table.proofs.Answers.{covered-roles-are, openable-is}
-use Rattle.sound.specs.Answers.{isSound, openingsFit, sessionsFit, pairFits, openingsOf, sessionsOf, holdersOf}
-use Rattle.sound.specs.Tests.{heldFits}
+use Rattle.sound.specs.Answers.{isSound, openingsFit, sessionsFit, pairFits, sessionsHold, openingsOf, sessionsOf, holdersOf, staticSetsOf, sessionsHoldOf}
+use Rattle.sound.specs.Tests.{rolesFit, heldFits}
 
 module _ (t : List ℕ) where
   -- an item that a sound state passes, and this one does not
@@ -170,6 +171,12 @@ module _ (t : List ℕ) where
   unfolding holdersOf
   holders-past-object x o h = sym (and-false (isTable t) (and-false (ltb x 8) (false-and _ (le-ltb o 64 h))))
 
+-- ---- all sessions, one by one
+
+pub sessions-hold-are : (t : List ℕ) → length t ≡ tableLength → all 32 (λ s. rolesFit (state t) s and openingsFit (state t) s) ≡ sessionsHoldOf t
+unfolding rolesFit sessionsHold sessionsHoldOf
+sessions-hold-are t e = all-cong 32 (λ s h. and-assoc (leb (state t .owner s) 64) _ _) ∙ sym (true-and _ (is-table t e))
+
 -- ---- on the table of a state
 
 module _ {S S′ : State} (a : Agree S S′) where
@@ -192,6 +199,29 @@ module _ {S S′ : State} (a : Agree S S′) where
   pair-agree x o hx ho =
       all-cong 32 (λ s hs. ap₂ (λ (w : ℕ) (b : Bool). has w o implies b) (a .holds s x hs hx) (effective-agree a s x o hs hx ho))
 
+  roles-agree : (s : ℕ) → s < 32 → rolesFit S s ≡ rolesFit S′ s
+  unfolding rolesFit
+  roles-agree s h =
+      by-truth (leb (S .owner s) 64)
+      (λ k.
+      ap₂ (λ (b : Bool) (w : ℕ). b and each w (λ r. mayActivate S s r)) known (a .active s h)
+      ∙ ap (λ (b : Bool). leb (S′ .owner s) 64 and b) (each-cong (S′ .active s) (λ r l. may-activate-agree a s r h (leb-true (S .owner s) 64 k))))
+      (λ k. false-and _ k ∙ sym (false-and _ (sym known ∙ k)))
+    where
+      known : leb (S .owner s) 64 ≡ leb (S′ .owner s) 64
+      known = ap (λ (w : ℕ). leb w 64) (a .owner s h)
+
+  sessions-hold-agree : sessionsHold S ≡ sessionsHold S′
+  unfolding rolesFit sessionsHold
+  sessions-hold-agree =
+      all-cong 32 (λ s h. sym (and-assoc (leb (S .owner s) 64) _ _) ∙ ap₂ _and_ (roles-agree s h) (openings-agree s h) ∙ and-assoc (leb (S′ .owner s) 64) _ _)
+
+  static-agree : staticSetsHold S ≡ staticSetsHold S′
+  static-agree =
+      all-cong 16 (λ n h. all-cong 64 (λ u l.
+      ap₂ (λ (m b : ℕ). fewer m b (authorised S u)) (a .sets (2 * n) (omega arith)) (a .sets (2 * n + 1) (omega arith))
+      ∙ fewer-cong _ _ (authorised S u) (authorised S′ u) (λ q k. authorised-agree a u q l)))
+
 module _ {t : List ℕ} (S : State) (e : t ≡ encode S) where
   shows : Agree (state t) S
   shows = rw e (state-encode S)
@@ -207,6 +237,14 @@ module _ {t : List ℕ} (S : State) (e : t ≡ encode S) where
 
   pub holders-shown : (x o : ℕ) → x < 8 → o < 64 → holdersOf t x o ≡ pairFits S x o
   holders-shown x o hx ho = sym (holders-are t x o long hx ho) ∙ pair-agree shows x o hx ho
+
+  pub sessions-hold-shown : sessionsHoldOf t ≡ sessionsHold S
+  unfolding sessionsHoldOf
+  sessions-hold-shown = true-and _ (is-table t long) ∙ sessions-hold-agree shows
+
+  pub static-sets-shown : staticSetsOf t ≡ staticSetsHold S
+  unfolding staticSetsOf
+  static-sets-shown = true-and _ (is-table t long) ∙ static-agree shows
 
   pub shown-sound : isSound t ≡ sound S
   unfolding isSound

@@ -1,24 +1,27 @@
 -- The items of the soundness test: a sound state passes each of them, and a separated state that passes all is sound. Assumes nothing.
 use Prim.Native.Nat.{ℕ, _^_, _≤_, _<_}
-use mathlib.Core.Path.{_≡_, sym, ap, _∙_}
-use mathlib.Core.Bool.{true, false, not}
+use mathlib.Core.Path.{_≡_, sym, ap, subst, _∙_}
+use mathlib.Core.Bool.{Bool, true, false, not}
 use native.Mathlib.Omega.{arith}
 use lib.Dec.{eqb}
 use borrow.Author.Tests.{eqb-true, eqb-false, eq-eqb, ne-eqb, leb-true, le-leb, lt-leb, not-true}
-use Rattle.bits.specs.Words.{has, subset, pack}
-use Rattle.bits.specs.Sets.{lowest, overlap, _without_}
+use Rattle.bits.specs.Words.{_or_, has, subset, pack, _with_}
+use Rattle.bits.specs.Sets.{some, lowest, overlap}
 use Rattle.bits.proofs.Truth.{clash, by-truth, is-false, same-truth, not-intro, and-intro, and-left, and-right, true-and, false-and, or-left, or-right, or-elim}
-use Rattle.bits.proofs.Word.{has-pack, none-in, without-old, without-other, without-keeps}
-use Rattle.bits.proofs.Members.{not-empty, each-intro, each-elim, each-cong, subset-intro, subset-elim, subset-pack, overlap-elim}
+use Rattle.bits.proofs.Word.{has-pack, has-with, with-lt, none-in, same-members}
+use Rattle.bits.proofs.Members.{not-empty, each-intro, each-elim, each-cong, subset-pack, overlap-elim}
 use Rattle.bits.proofs.Walk.{lowest-lt, lowest-in}
+use Rattle.closure.proofs.Fixed.{Fixed, step, fixed-own-clear, fixed-reached, fixed-reaches, fixed-one-way, reached-fixed}
 use Rattle.table.specs.State.{State}
 use Rattle.table.specs.Authority.{senior, permission, idle, user, covers, authorised, mayActivate}
+use Rattle.table.specs.Seniority.{links, Linked}
 use Rattle.table.specs.Separation.{separated}
 use Rattle.table.specs.Sound.{sound, Sound}
-use Rattle.table.proofs.State.{covers-elim, effective-is, may-activate-idle, may-activate-busy}
+use Rattle.table.proofs.Seniority.{link-at, linked-junior, linked-reflexive, linked-transitive}
+use Rattle.table.proofs.State.{covers-intro, covers-elim, effective-is, may-activate-idle, may-activate-busy}
 use Rattle.table.proofs.Separation.{separated-elim}
 use Rattle.table.proofs.Sound.{sound-intro}
-use Rattle.sound.specs.Tests.{juniorFits, roleFits, grantFits, rolesFit, heldFits}
+use Rattle.sound.specs.Tests.{roleFits, grantFits, rolesFit, heldFits}
 
 -- the words of a state that a table shows are words
 pub record Words (S : State) : Type 0 where
@@ -49,18 +52,30 @@ module _ (S : State) (s : ℕ) where
       ∙ each-cong (S .active s) (λ r l. sym (may-activate-busy S s r (ne-eqb (S .owner s) 0 n)))
       ∙ sym (true-and _ (le-leb (S .owner s) 64 h))
 
+-- ---- the juniors of a role, as the code works them out
+
+-- what is r or below a direct junior of r
+covered-is : (S : State) (r p : ℕ) → r < 64 → p < 64 → has (pack 64 (covers S (S .direct r)) with r) p ≡ step (links (S .direct)) (S .juniors) r p
+unfolding covers
+covered-is S r p hr hp =
+    has-with _ r p hp
+    ∙ ap (λ (b : Bool). eqb p r or b) (has-pack _ 64 p hp ∙ ap (λ (w : ℕ). some w (λ q. senior S q p)) (sym (link-at (S .direct) r hr)))
+
 -- ---- a sound state passes each item
 
 module _ (S : State) (f : Sound S) where
   pub sound-role : (r : ℕ) → r < 64 → roleFits S r ≡ true
-  unfolding roleFits juniorFits
+  unfolding roleFits
   sound-role r h =
-      and-intro (f .is-reflexive r h)
-      (each-intro (S .juniors r without r) _ (λ q hq e.
-      let m = without-old (S .juniors r) r q hq e in
       and-intro
-      (not-intro (is-false (λ k. without-other (S .juniors r) r q hq e (sym (f .is-antisymmetric r q h hq m k)))))
-      (subset-intro (S .juniors q) (S .juniors r) (λ p hp k. f .is-transitive r q p h hq hp m k))))
+      (not-intro (is-false (λ e.
+      let k = covers-elim S (S .direct r) r e in
+      let m = linked-junior (f .is-linked) r (k .at) h (k .below) (k .member) in
+      clash (ap (has (S .direct r)) (f .is-antisymmetric r (k .at) h (k .below) m (k .holds)) ∙ k .member) (f .is-linked .own-clear r h))))
+      (eq-eqb (S .juniors r) _ (same-members (S .juniors r) _ (f .is-linked .is-word r h) (with-lt _ r) (λ p hp.
+      reached-fixed (links (S .direct)) (S .juniors)
+      (λ a b ha hb. f .is-linked .is-reached a b ha hb .0) (λ a b ha hb. f .is-linked .is-reached a b ha hb .1) r p h hp
+      ∙ sym (covered-is S r p h hp))))
 
   pub sound-grant : (x o : ℕ) → S .granted x o < 2 ^ 64 → x < 8 → o < 64 → grantFits S x o ≡ true
   unfolding grantFits
@@ -100,29 +115,28 @@ module _ (S : State) (w : Words S)
     (by-role : (r : ℕ) → r < 64 → roleFits S r ≡ true)
     (by-grant : (x o : ℕ) → x < 8 → o < 64 → grantFits S x o ≡ true)
     (by-session : (s : ℕ) → s < 32 → SessionFits S s) where
-  own-junior : (r : ℕ) → r < 64 → senior S r r ≡ true
+  is-fixed : Fixed (links (S .direct)) (S .juniors)
   unfolding roleFits
-  own-junior r h = and-left (senior S r r) _ (by-role r h)
+  is-fixed = record {
+    word = λ r h. subst (λ (n : ℕ). n < 2 ^ 64) (sym (told r h)) (with-lt _ r);
+    fixed = λ r p hr hp. ap (λ (n : ℕ). has n p) (told r hr) ∙ covered-is S r p hr hp;
+    no-back = λ r q hr hq m. is-false (λ e.
+        clash (covers-intro S (S .direct r) r q hq (sym (ap (λ (w : ℕ). has w q) (link-at (S .direct) r hr)) ∙ m) e) (not-true _ (and-left _ _ (by-role r hr))));
+  }
+    where
+      told : (r : ℕ) → r < 64 → S .juniors r ≡ pack 64 (covers S (S .direct r)) with r
+      told r h = unfold roleFits in eqb-true (S .juniors r) _ (and-right (not (covers S (S .direct r) r)) _ (by-role r h))
 
-  -- another junior of r fits
-  junior : (r q : ℕ) → r < 64 → q < 64 → senior S r q ≡ true → (q ≡ r → ⊥) → juniorFits S r q ≡ true
-  unfolding roleFits
-  junior r q hr hq m n =
-      each-elim (S .juniors r without r) _ (and-right (senior S r r) _ (by-role r hr)) q hq (without-keeps (S .juniors r) r q hq n m)
-
-  through : (r q p : ℕ) → r < 64 → q < 64 → p < 64 → senior S r q ≡ true → senior S q p ≡ true → senior S r p ≡ true
-  unfolding juniorFits
-  through r q p hr hq hp a b =
-      by-truth (eqb q r)
-      (λ e. sym (ap (λ (k : ℕ). senior S k p) (eqb-true q r e)) ∙ b)
-      (λ e. subset-elim (S .juniors q) (S .juniors r) (and-right (not (senior S q r)) _ (junior r q hr hq a (eqb-false q r e))) p hp b)
+  is-linked : Linked (S .juniors) (S .direct)
+  is-linked = record {
+    own-clear = λ r h. sym (ap (λ (w : ℕ). has w r) (link-at (S .direct) r h)) ∙ fixed-own-clear _ _ is-fixed r h;
+    is-word = is-fixed .word;
+    is-reached = λ r q hr hq. (fixed-reached _ _ is-fixed r q hr hq, fixed-reaches _ _ is-fixed r q hr hq);
+  }
 
   one-way : (r q : ℕ) → r < 64 → q < 64 → senior S r q ≡ true → senior S q r ≡ true → r ≡ q
-  unfolding juniorFits
   one-way r q hr hq a b =
-      by-truth (eqb q r)
-      (λ e. sym (eqb-true q r e))
-      (λ e. clash b (not-true (senior S q r) (and-left (not (senior S q r)) _ (junior r q hr hq a (eqb-false q r e)))))
+      fixed-one-way _ _ is-fixed r q hr hq (is-linked .is-reached r q hr hq .0 a) (is-linked .is-reached q r hq hr .0 b)
 
   permits : (x o r : ℕ) → x < 8 → o < 64 → has (S .granted x o) r ≡ true → permission S x o ≡ true
   unfolding grantFits
@@ -153,8 +167,8 @@ module _ (S : State) (w : Words S)
   unfolding rolesFit
   items-sound d =
       sound-intro S (record {
-        is-reflexive = own-junior;
-        is-transitive = through;
+        is-reflexive = linked-reflexive is-linked;
+        is-transitive = linked-transitive is-linked;
         is-antisymmetric = one-way;
         grants-permitted = λ x o r hx ho hr m. permits x o r hx ho m;
         owners-known = λ s h. leb-true (S .owner s) 64 (and-left _ _ (by-session s h .roles-fit));
@@ -165,5 +179,6 @@ module _ (S : State) (w : Words S)
             let k = reach s x o hs hx ho m in
             let q = overlap-elim (S .granted x o) _ k in
             effective-is S s x o ∙ and-intro (permits x o (q .at) hx ho (q .member)) k;
+        is-linked = is-linked;
         is-separated = separated-elim S d;
       })

@@ -1,28 +1,30 @@
 -- After one change of a sound state only a part of soundness is to be tested again. Assumes nothing.
 use Prim.Native.Nat.{ℕ, suc, _+_, _*_, _-_, _≤_, _<_}
-use mathlib.Core.Path.{_≡_, sym, ap, subst, _∙_}
-use mathlib.Core.Bool.{Bool, true}
+use mathlib.Core.Path.{_≡_, refl, sym, ap, subst, _∙_}
+use mathlib.Core.Bool.{Bool, true, false}
 use native.Mathlib.Nat.{zero-add}
 use native.Mathlib.Omega.{arith}
-use lib.Dec.{ltb}
-use borrow.Author.Tests.{eq-eqb, eqb-true, ltb-true, ltb-false}
-use Rattle.bits.specs.Words.{has}
-use Rattle.bits.specs.Sets.{_without_}
-use Rattle.bits.proofs.Truth.{by-truth, same-truth, implies-intro, implies-elim, if-true, if-false}
+use lib.Dec.{leb, ltb}
+use borrow.Author.Tests.{eq-eqb, eqb-true, le-leb, ltb-true, ltb-false}
+use Rattle.bits.specs.Words.{_and_, upd, has, _with_}
+use Rattle.bits.specs.Sets.{each, _without_}
+use Rattle.bits.proofs.Truth.{by-truth, same-truth, and-intro, and-left, and-right, and-true, implies-intro, implies-elim, if-true, if-false}
 use Rattle.bits.proofs.Below.{all-intro, all-elim}
 use Rattle.bits.proofs.Word.{without-old, without-none}
 use Rattle.bits.proofs.Members.{each-intro, each-elim}
 use Rattle.table.specs.State.{State}
-use Rattle.table.specs.Authority.{covers, authorised}
-use Rattle.table.specs.Changes.{withAssigned, withGranted, withActive, withSet}
-use Rattle.table.specs.Separation.{mask, bound, staticHolds, dynamicHolds, setsEmpty, separated, Fewer, GoodPair, Separated}
+use Rattle.table.specs.Authority.{senior, covers, authorised, mayActivate}
+use Rattle.table.specs.Changes.{setSeniority, withAssigned, withGranted, withActive, withSet, withDirect}
+use Rattle.table.specs.Seniority.{Linked}
+use Rattle.table.specs.Separation.{mask, bound, staticHolds, dynamicHolds, staticSetsHold, setsEmpty, separated, Fewer, GoodPair, Separated}
 use Rattle.table.specs.Sound.{sound, Sound}
 use Rattle.table.proofs.State.{may-activate-user}
 use Rattle.table.proofs.Sound.{sound-intro, sound-elim}
 use Rattle.table.proofs.Agree.{upd-same}
-use Rattle.table.proofs.Separation.{no-roles-fewer, fewer-elim, fewer-intro, separated-elim, separated-intro}
-use Rattle.table.proofs.Keeps.{set-mask, set-bound, active-separated, active-less, assigned-less, assigned-separated, set-separated, active-keeps, assigned-keeps, granted-keeps}
-use Rattle.sound.specs.Answers.{openingsFit, sessionsFit, pairFits, setsFit, pairHolds}
+use Rattle.table.proofs.Seniority.{link-more, link-own-clear, link-one-way, unlink-less, unlink-own-clear}
+use Rattle.table.proofs.Separation.{no-roles-fewer, fewer-elim, fewer-intro, separated-elim, separated-intro, separated-less, separated-parts}
+use Rattle.table.proofs.Keeps.{set-mask, set-bound, active-separated, active-less, assigned-less, assigned-separated, set-separated, active-keeps, assigned-keeps, granted-keeps, direct-keeps, authorised-more, may-activate-more, effective-more}
+use Rattle.sound.specs.Answers.{openingsFit, sessionsFit, pairFits, sessionsHold, setsFit, pairHolds}
 
 module _ (S : State) (f : Sound S) where
   -- a role is dropped: what the session holds must stay effective
@@ -68,9 +70,55 @@ module _ (S : State) (f : Sound S) where
       S′ : State
       S′ = withGranted S x o (S .granted x o without r)
 
+  -- a link is made, from a role to another that is not above it: the sets must hold
+  pub link-keeps : (r q : ℕ) → r < 64 → q < 64 → (r ≡ q → ⊥) → senior S q r ≡ false
+      → let S′ = withDirect S r (S .direct r with q) in Separated S′ → Sound S′
+  link-keeps r q hr hq n b =
+      direct-keeps S f (upd (S .direct) r (S .direct r with q)) (link-own-clear l r q hr hq n) (link-one-way l r q hr hq b (f .is-antisymmetric))
+      (λ s p hs hp m. may-activate-more S _ grow s p hp refl (λ u a ha k. k) (f .active-authorised s p hs hp m))
+      (λ s x o hs hx ho m. effective-more S _ grow s x o refl (λ a ha k. k) (λ a ha k. k) (f .openings-effective s x o hs hx ho m))
+    where
+      l : Linked (S .juniors) (S .direct)
+      l = f .is-linked
+
+      grow : (a p : ℕ) → a < 64 → p < 64 → senior S a p ≡ true → senior (withDirect S r (S .direct r with q)) a p ≡ true
+      grow = link-more l r q hr hq
+
+  -- a link is taken away: active roles must stay authorised, and openings effective
+  pub unlink-sound : (r q : ℕ) → r < 64 → q < 64 → let S′ = withDirect S r (S .direct r without q) in sound S′ ≡ sessionsHold S′
+  unfolding sessionsHold openingsFit
+  unlink-sound r q hr hq =
+      same-truth
+      (λ e.
+      let g = sound-elim S′ e in
+      all-intro _ 32 (λ s hs. and-intro (le-leb (S .owner s) 64 (f .owners-known s hs))
+      (and-intro (each-intro _ _ (λ p hp m. g .active-authorised s p hs hp m))
+      (all-intro _ 8 (λ x hx. each-intro _ _ (λ o ho m. g .openings-effective s x o hs hx ho m))))))
+      (λ e.
+      let told : (s : ℕ) → s < 32 → each (S .active s) (mayActivate S′ s) and openingsFit S′ s ≡ true = λ s hs. and-right (leb (S .owner s) 64) _ (all-elim _ 32 e s hs) in
+      sound-intro S′ (direct-keeps S f (upd (S .direct) r (S .direct r without q)) (unlink-own-clear l r q hr hq)
+      (λ a b ha hb x y. f .is-antisymmetric a b ha hb (less a b ha hb x) (less b a hb ha y))
+      (λ s p hs hp m. each-elim _ _ (and-left _ _ (told s hs)) p hp m)
+      (λ s x o hs hx ho m. each-elim _ _ (all-elim _ 8 (and-right (each (S .active s) (mayActivate S′ s)) _ (told s hs)) x hx) o ho m)
+      (separated-less S S′ (f .is-separated) (λ i h. refl) (λ u p hu hp k. authorised-more S′ S less u p hp (λ a ha m. m) k) (λ s p hs hp m. m))))
+    where
+      l : Linked (S .juniors) (S .direct)
+      l = f .is-linked
+
+      S′ : State
+      S′ = withDirect S r (S .direct r without q)
+
+      less : (a p : ℕ) → a < 64 → p < 64 → senior S′ a p ≡ true → senior S a p ≡ true
+      less = unlink-less l r q hr hq
+
 -- ---- the sets, after one change of a separated state
 
 module _ (S : State) (f : Separated S) where
+  -- another seniority: only static sets can break
+  pub seniority-fits : (j d : ℕ → ℕ) → let S′ = setSeniority S j d in separated S′ ≡ staticSetsHold S′
+  seniority-fits j d =
+      separated-parts _ ∙ and-true (staticSetsHold (setSeniority S j d)) (and-right (staticSetsHold S) _ (sym (separated-parts S) ∙ separated-intro S f))
+
   -- roles become active in a session: they must fit the dynamic sets
   pub active-fits : (s w : ℕ) → s < 32 → separated (withActive S s w) ≡ setsFit S 16 (has w)
   active-fits s w hs =

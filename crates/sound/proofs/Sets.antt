@@ -1,27 +1,27 @@
 -- The separation sets, as the code goes about them: user by user, and session by session. Assumes nothing.
 use Prim.Native.Nat.{ℕ, _+_, _*_, _<_}
-use mathlib.Core.Path.{_≡_, sym, ap, _∙_}
+use mathlib.Core.Path.{_≡_, sym, ap, ap₂, _∙_}
 use mathlib.Core.Bool.{Bool, true}
 use mathlib.Core.List.{List}
 use native.Mathlib.Omega.{arith}
 use lib.Dec.{eqb}
 use lib.ListN.{length}
 use native.Mathlib.Nat.{zero-add}
-use borrow.Author.Tests.{eqb-true, lt-ltb, not-true}
+use borrow.Author.Tests.{eqb-true, lt-ltb}
 use Rattle.bits.specs.Words.{_and_, has, all, pack}
-use Rattle.bits.proofs.Truth.{same-truth, not-intro, and-intro, and-left, and-right, true-and}
+use Rattle.bits.proofs.Truth.{same-truth, and-right, true-and, and-assoc, and-comm}
 use Rattle.bits.proofs.Below.{all-intro, all-elim, all-cong}
 use Rattle.bits.proofs.Word.{has-pack}
 use Rattle.table.specs.State.{State}
 use Rattle.table.specs.Authority.{covers, authorised}
 use Rattle.table.specs.Answers.{authorisedRoles}
-use Rattle.table.specs.Separation.{fewer, pairsGood, setsEmpty, separated}
+use Rattle.table.specs.Separation.{mask, bound, fewer, staticSetsHold, dynamicSetsHold, pairsGood, setsEmpty, separated}
 use Rattle.table.specs.Reading.{word, state}
 use Rattle.table.specs.Table.{tableLength, isTable}
 use Rattle.table.proofs.Table.{is-table, in-table}
 use Rattle.table.proofs.Answers.{authorised-roles-are}
-use Rattle.table.proofs.Separation.{no-roles-fewer, fewer-elim, fewer-intro, fewer-cong, good-elim, good-intro, separated-elim, separated-intro}
-use Rattle.sound.specs.Answers.{setsFit, pairHolds, setsEmptyOf, staticFitOf, dynamicFitOf, pairHoldsOf}
+use Rattle.table.proofs.Separation.{no-roles-fewer, fewer-cong, separated-parts}
+use Rattle.sound.specs.Answers.{setsFit, pairHolds, setsEmptyOf, staticFitOf, dynamicFitOf, pairHoldsOf, staticSetsOf}
 use Rattle.sound.specs.Tests.{usersSeparate, sessionsSeparate}
 
 -- ---- roles gathered in a word
@@ -63,6 +63,10 @@ module _ (t : List ℕ) (e : length t ≡ tableLength) where
   unfolding pairHoldsOf
   pair-holds-are n m b h = sym (true-and _ (is-table t e) ∙ true-and _ (lt-ltb n 32 h))
 
+  pub static-sets-are : staticSetsHold (state t) ≡ staticSetsOf t
+  unfolding staticSetsOf
+  static-sets-are = sym (true-and _ (is-table t e))
+
 -- where the words of the 16 pairs from first on are 0
 pub unused-fit : (t : List ℕ) (first : ℕ) (f : ℕ → Bool) → all 32 (λ i. eqb (word t (968 + 2 * first + i)) 0) ≡ true → setsFit (state t) first f ≡ true
 unused-fit t first f e =
@@ -76,20 +80,25 @@ unfolding setsEmptyOf
 empty-state t e = and-right (isTable t) _ e
 
 module _ (S : State) where
+  -- set by set, or user by user and session by session
+  pub users-is : usersSeparate S ≡ staticSetsHold S
+  users-is =
+      same-truth
+      (λ e. all-intro _ 16 (λ n hn. all-intro _ 64 (λ u hu. sym (zeroth n (authorised S u)) ∙ all-elim _ 16 (all-elim _ 64 e u hu) n hn)))
+      (λ e. all-intro _ 64 (λ u hu. all-intro _ 16 (λ n hn. zeroth n (authorised S u) ∙ all-elim _ 64 (all-elim _ 16 e n hn) u hu)))
+    where
+      zeroth : (n : ℕ) (f : ℕ → Bool) → fewer (mask S (0 + n)) (bound S (0 + n)) f ≡ fewer (mask S n) (bound S n) f
+      zeroth n f = ap (λ (k : ℕ). fewer (mask S k) (bound S k) f) (zero-add n)
+
+  sessions-is : sessionsSeparate S ≡ dynamicSetsHold S
+  sessions-is =
+      same-truth
+      (λ e. all-intro _ 16 (λ n hn. all-intro _ 32 (λ s hs. all-elim _ 16 (all-elim _ 32 e s hs) n hn)))
+      (λ e. all-intro _ 32 (λ s hs. all-intro _ 16 (λ n hn. all-elim _ 32 (all-elim _ 16 e n hn) s hs)))
+
   pub separated-is : separated S ≡ pairsGood S and (usersSeparate S and sessionsSeparate S)
   separated-is =
-      same-truth
-      (λ e.
-      let f = separated-elim S e in
-      and-intro (all-intro _ 32 (λ n h. not-intro (good-intro _ _ (f .pairs-good n h))))
-      (and-intro
-      (all-intro _ 64 (λ u hu. all-intro _ 16 (λ n hn. fewer-intro _ _ _ (rw zero-add (f .static-holds n u hn hu)))))
-      (all-intro _ 32 (λ s hs. all-intro _ 16 (λ n hn. fewer-intro _ _ _ (f .dynamic-holds n s hn hs))))))
-      (λ e.
-      let k = and-right (pairsGood S) _ e in
-      separated-intro S (record {
-        static-holds = λ n u hn hu.
-            rw (zero-add n) at (fewer-elim _ _ _ (all-elim _ 16 (all-elim _ 64 (and-left (usersSeparate S) _ k) u hu) n hn));
-        dynamic-holds = λ n s hn hs. fewer-elim _ _ _ (all-elim _ 16 (all-elim _ 32 (and-right (usersSeparate S) _ k) s hs) n hn);
-        pairs-good = λ n h. good-elim _ _ (not-true _ (all-elim _ 32 (and-left (pairsGood S) _ e) n h));
-      }))
+      separated-parts S
+      ∙ sym (and-assoc (staticSetsHold S) _ _)
+      ∙ and-comm _ (pairsGood S)
+      ∙ ap (λ (b : Bool). pairsGood S and b) (sym (ap₂ _and_ users-is sessions-is))

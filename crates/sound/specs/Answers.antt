@@ -1,10 +1,10 @@
 -- What the public functions answer, for a list of any length and any number: no, where the list is no table or there is no
 -- such session, user, mode or object. `isSound` is 01's soundness; the others are the part of it that one change can break.
-use Rattle.bits.specs.Words.{ℕ, suc, _+_, Bool, List, eqb, ltb, _and_, _implies_, if_then_else_, has, all}
+use Rattle.bits.specs.Words.{ℕ, suc, _+_, Bool, List, eqb, leb, ltb, _and_, _implies_, if_then_else_, has, all}
 use Rattle.bits.specs.Sets.{each}
 use Rattle.table.specs.State.{State}
-use Rattle.table.specs.Authority.{covers, authorised, effective}
-use Rattle.table.specs.Separation.{mask, bound, fewer, staticHolds, dynamicHolds, setsEmpty}
+use Rattle.table.specs.Authority.{covers, authorised, mayActivate, effective}
+use Rattle.table.specs.Separation.{mask, bound, fewer, staticHolds, dynamicHolds, staticSetsHold, setsEmpty}
 use Rattle.table.specs.Sound.{sound}
 use Rattle.table.specs.Table.{isTable}
 use Rattle.table.specs.Reading.{state}
@@ -28,6 +28,10 @@ pairFits S x o = all 32 (λ s. has (S .holds s x) o implies effective S s x o)
 -- the roles include fewer of each of the 16 sets from pair first on than its bound
 abbrev pub setsFit : State → ℕ → (ℕ → Bool) → Bool
 setsFit S first roles = all 16 (λ n. fewer (mask S (first + n)) (bound S (first + n)) roles)
+
+-- every session: its word is at most 64, its active roles are authorised for it, and all that it holds open is effective
+unfoldable pub sessionsHold : State → Bool
+sessionsHold S = all 32 (λ s. leb (S .owner s) 64 and each (S .active s) (mayActivate S s) and openingsFit S s)
 
 -- the mask and the bound as pair n hold: as a static set below 16, else as a dynamic one
 unfoldable pub pairHolds : State → ℕ → ℕ → ℕ → Bool
@@ -54,3 +58,9 @@ dynamicFitOf t roles = isTable t and setsFit (state t) 16 (has roles)
 
 unfoldable pub pairHoldsOf : List ℕ → ℕ → ℕ → ℕ → Bool
 pairHoldsOf t n m b = isTable t and ltb n 32 and pairHolds (state t) n m b
+
+unfoldable pub staticSetsOf : List ℕ → Bool
+staticSetsOf t = isTable t and staticSetsHold (state t)
+
+unfoldable pub sessionsHoldOf : List ℕ → Bool
+sessionsHoldOf t = isTable t and sessionsHold (state t)

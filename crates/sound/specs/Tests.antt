@@ -1,18 +1,14 @@
 -- What the private functions that make up the soundness test answer, item by item. No promise rests on this page: the public
 -- test is held to `sound`, and that these items come to it is proved.
-use Rattle.bits.specs.Words.{ℕ, Bool, not, eqb, leb, _and_, _or_, has, all, subset}
-use Rattle.bits.specs.Sets.{each, overlap, _without_}
+use Rattle.bits.specs.Words.{ℕ, Bool, not, eqb, leb, _and_, _or_, has, all, pack, _with_}
+use Rattle.bits.specs.Sets.{each, overlap}
 use Rattle.table.specs.State.{State}
-use Rattle.table.specs.Authority.{senior, permission, authorised, mayActivate}
+use Rattle.table.specs.Authority.{permission, covers, authorised, mayActivate}
 use Rattle.sound.specs.Answers.{setsFit}
 
--- q, a junior of r and another role, is not senior to r, and its juniors are juniors of r
-unfoldable pub juniorFits : State → ℕ → ℕ → Bool
-juniorFits S r q = not (senior S q r) and subset (S .juniors q) (S .juniors r)
-
--- r is its own junior, and its other juniors fit
+-- the direct juniors of r and all their juniors, r not among them, are with r its juniors
 unfoldable pub roleFits : State → ℕ → Bool
-roleFits S r = senior S r r and each (S .juniors r without r) (λ q. juniorFits S r q)
+roleFits S r = not (covers S (S .direct r) r) and eqb (S .juniors r) (pack 64 (covers S (S .direct r)) with r)
 
 -- (x, o) is granted to no role or is a permission
 unfoldable pub grantFits : State → ℕ → ℕ → Bool

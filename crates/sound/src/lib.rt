@@ -1,6 +1,7 @@
 // The soundness test, and the parts of it that one change of a sound table can break.
 use table::layout::ACTIVE;
 use table::layout::ASSIGNED;
+use table::layout::DIRECT;
 use table::layout::GRANTED;
 use table::layout::HOLDS;
 use table::layout::OWNER;
@@ -14,39 +15,19 @@ ghost use Rattle.bits.specs.Words.{eqb, has, all};
 ghost use Rattle.table.specs.Separation.{badPair, fewer, staticHolds, dynamicHolds, pairsGood, separated};
 ghost use Rattle.table.specs.Reading.{word, state};
 ghost use Rattle.table.specs.Table.{tableLength};
-ghost use Rattle.sound.specs.Answers.{setsFit, isSound, openingsOf, sessionsOf, holdersOf, setsEmptyOf, staticFitOf, dynamicFitOf, pairHoldsOf};
-ghost use Rattle.sound.specs.Tests.{juniorFits, roleFits, grantFits, grantsFit, rolesFit, heldFits, usersSeparate, sessionsSeparate};
+ghost use Rattle.sound.specs.Answers.{setsFit, isSound, openingsOf, sessionsOf, holdersOf, setsEmptyOf, staticFitOf, dynamicFitOf, pairHoldsOf, staticSetsOf, sessionsHoldOf};
+ghost use Rattle.sound.specs.Tests.{roleFits, grantFits, grantsFit, rolesFit, heldFits, usersSeparate, sessionsSeparate};
 
-// Whether q, a junior of r and another role, is not senior to r, and its juniors are juniors of r.
-fn junior_fits(t: &[u64], r: usize, q: usize) -> bool
-    requires { ⌜ (length (now t) ≡ tableLength) × ((r < 64) × (q < 64)) ⌝ }
-    ensures { λ b. ⌜ b ≡ juniorFits (state (now (t .entry))) r q ⌝ }
-{
-    let below = t[q];
-    if bits::has(below, r) {
-        return false;
-    }
-    bits::subset(below, t[r])
-}
-
-// Whether role r is its own junior, and its other juniors fit.
+// Whether the direct juniors of role r and all their juniors, r not among them, are with r its juniors.
 fn role_fits(t: &[u64], r: usize) -> bool
     requires { ⌜ (length (now t) ≡ tableLength) × (r < 64) ⌝ }
     ensures { λ b. ⌜ b ≡ roleFits (state (now (t .entry))) r ⌝ }
 {
-    let below = t[r];
-    if !bits::has(below, r) {
+    let below = table::covered_roles(t, t[DIRECT + r]);
+    if bits::has(below, r) {
         return false;
     }
-    let mut left = bits::without(below, r);
-    while left != 0 {
-        let q = bits::lowest(left);
-        left = bits::rest(left);
-        if !junior_fits(t, r, q) {
-            return false;
-        }
-    }
-    true
+    t[r] == bits::with(below, r)
 }
 
 // Whether (x, o) is granted to no role or is a permission.
@@ -282,6 +263,19 @@ fn sessions_separate(t: &[u64]) -> bool
     true
 }
 
+// Whether every static set holds; yes at once where none is in use.
+pub fn static_sets_hold(t: &[u64]) -> bool
+    ensures { λ b. ⌜ b ≡ staticSetsOf (now (t .entry)) ⌝ }
+{
+    if t.len() != WORDS {
+        return false;
+    }
+    if words_empty(t, SETS, 32) {
+        return true;
+    }
+    users_separate(t)
+}
+
 // Whether every set holds and no pair is one of error 21.
 fn is_separated(t: &[u64]) -> bool
     requires { ⌜ length (now t) ≡ tableLength ⌝ }
@@ -395,6 +389,24 @@ pub fn holders_fit(t: &[u64], x: usize, o: usize) -> bool
             if !table::is_effective(t, s, x, o) {
                 return false;
             }
+        }
+    }
+    true
+}
+
+// Whether the active roles of every session are authorised for it, and all that it holds open is effective.
+pub fn sessions_hold(t: &[u64]) -> bool
+    ensures { λ b. ⌜ b ≡ sessionsHoldOf (now (t .entry)) ⌝ }
+{
+    if t.len() != WORDS {
+        return false;
+    }
+    for s in 0..32 {
+        if !roles_fit(t, s) {
+            return false;
+        }
+        if !openings_fit(t, s) {
+            return false;
         }
     }
     true

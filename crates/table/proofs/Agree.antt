@@ -3,19 +3,25 @@
 use Prim.Native.Nat.{ℕ, _+_, _-_, _*_, _≤_, _<_}
 use mathlib.Core.Path.{_≡_, refl, sym, ap, ap₂, subst, _∙_}
 use mathlib.Core.Bool.{Bool}
+use mathlib.Core.List.{List}
 use native.Mathlib.Omega.{arith}
+use lib.ListN.{getD}
 use lib.Dec.{eqb}
 use borrow.Author.Tests.{eqb-false}
 use Rattle.bits.specs.Words.{_and_, upd, has}
 use Rattle.bits.specs.Sets.{some}
 use Rattle.bits.proofs.Truth.{by-truth, same-truth}
 use Rattle.bits.proofs.Members.{some-cong}
+use Rattle.bits.proofs.Tabulate.{tabulate-cong}
+use Rattle.closure.specs.Closure.{closure}
 use Rattle.table.specs.State.{State}
 use Rattle.table.specs.Authority.{senior, permission, idle, user, covers, authorised, mayActivate, effective}
-use Rattle.table.specs.Changes.{setAssigned, setGranted, setOwner, setActive, setHolds, setSets, withAssigned, withGranted, withOwner, withActive, withHolds, withSet}
+use Rattle.table.specs.Changes.{setAssigned, setGranted, setOwner, setActive, setHolds, setSets, setSeniority, withAssigned, withGranted, withOwner, withActive, withHolds, withSet, withDirect}
+use Rattle.table.specs.Seniority.{Linked}
 use Rattle.table.specs.Separation.{separated, Separated}
 use Rattle.table.specs.Sound.{sound, Sound}
 use Rattle.table.proofs.State.{may-activate-idle, may-activate-busy}
+use Rattle.table.proofs.Seniority.{linked-closure, linked-agree}
 use Rattle.table.proofs.Separation.{separated-elim, separated-intro, separated-less}
 use Rattle.table.proofs.Sound.{sound-elim, sound-intro}
 use Rattle.table.proofs.Upd.{row-agree, grid-agree}
@@ -44,6 +50,7 @@ module _ {S S′ : State} (a : Agree S S′) where
     active = a .active;
     holds = a .holds;
     sets = a .sets;
+    direct = a .direct;
   }
 
   pub agree-set-granted : {f g : ℕ → ℕ → ℕ} → ((x o : ℕ) → x < 8 → o < 64 → f x o ≡ g x o) → Agree (setGranted S f) (setGranted S′ g)
@@ -56,6 +63,7 @@ module _ {S S′ : State} (a : Agree S S′) where
     active = a .active;
     holds = a .holds;
     sets = a .sets;
+    direct = a .direct;
   }
 
   pub agree-set-owner : {f g : ℕ → ℕ} → ((s : ℕ) → s < 32 → f s ≡ g s) → Agree (setOwner S f) (setOwner S′ g)
@@ -68,6 +76,7 @@ module _ {S S′ : State} (a : Agree S S′) where
     active = a .active;
     holds = a .holds;
     sets = a .sets;
+    direct = a .direct;
   }
 
   pub agree-set-active : {f g : ℕ → ℕ} → ((s : ℕ) → s < 32 → f s ≡ g s) → Agree (setActive S f) (setActive S′ g)
@@ -80,6 +89,7 @@ module _ {S S′ : State} (a : Agree S S′) where
     active = e;
     holds = a .holds;
     sets = a .sets;
+    direct = a .direct;
   }
 
   pub agree-set-holds : {f g : ℕ → ℕ → ℕ} → ((s x : ℕ) → s < 32 → x < 8 → f s x ≡ g s x) → Agree (setHolds S f) (setHolds S′ g)
@@ -92,6 +102,7 @@ module _ {S S′ : State} (a : Agree S S′) where
     active = a .active;
     holds = e;
     sets = a .sets;
+    direct = a .direct;
   }
 
   pub agree-set-sets : {f g : ℕ → ℕ} → ((i : ℕ) → i < 64 → f i ≡ g i) → Agree (setSets S f) (setSets S′ g)
@@ -104,6 +115,21 @@ module _ {S S′ : State} (a : Agree S S′) where
     active = a .active;
     holds = a .holds;
     sets = e;
+    direct = a .direct;
+  }
+
+  pub agree-set-seniority : {f g f′ g′ : ℕ → ℕ} → ((r : ℕ) → r < 64 → f r ≡ f′ r) → ((r : ℕ) → r < 64 → g r ≡ g′ r)
+      → Agree (setSeniority S f g) (setSeniority S′ f′ g′)
+  agree-set-seniority e d = record {
+    juniors = e;
+    permitted = a .permitted;
+    assigned = a .assigned;
+    granted = a .granted;
+    owner = a .owner;
+    active = a .active;
+    holds = a .holds;
+    sets = a .sets;
+    direct = d;
   }
 
   -- one word of it
@@ -126,6 +152,13 @@ module _ {S S′ : State} (a : Agree S S′) where
   agree-with-set n {m} {m′} e d =
       agree-set-sets (λ i h. upd-agree (upd (S .sets) (2 * n) m) (upd (S′ .sets) (2 * n) m′) (2 * n + 1) i d
       (upd-agree (S .sets) (S′ .sets) (2 * n) i e (a .sets i h)))
+
+  pub agree-with-direct : (r : ℕ) {w w′ : ℕ} → w ≡ w′ → Agree (withDirect S r w) (withDirect S′ r w′)
+  agree-with-direct r {w} {w′} e =
+      agree-set-seniority (λ p h. ap (λ (l : List ℕ). getD (closure l) p 0) (tabulate-cong 64 same)) same
+    where
+      same : (p : ℕ) → p < 64 → upd (S .direct) r w p ≡ upd (S′ .direct) r w′ p
+      same p h = upd-agree (S .direct) (S′ .direct) r p e (a .direct p h)
 
 module _ (S : State) where
   -- openings replaced twice
@@ -158,6 +191,13 @@ module _ (S : State) where
   agree-own-set n {m} {b} e d =
       agree-set-sets (agree-refl S) (λ i h.
       upd-own (upd (S .sets) (2 * n) m) (2 * n + 1) b (d ∙ sym (upd-own (S .sets) (2 * n) m e (2 * n + 1))) i ∙ upd-own (S .sets) (2 * n) m e i)
+
+  pub agree-own-direct : Linked (S .juniors) (S .direct) → (r : ℕ) {w : ℕ} → w ≡ S .direct r → Agree (withDirect S r w) S
+  agree-own-direct f r {w} e =
+      agree-set-seniority (agree-refl S) (λ p h. ap (λ (l : List ℕ). getD (closure l) p 0) (tabulate-cong 64 same) ∙ sym (linked-closure f p h)) same
+    where
+      same : (p : ℕ) → p < 64 → upd (S .direct) r w p ≡ S .direct p
+      same p h = upd-own (S .direct) r w e p
 
 module _ {S S′ : State} (a : Agree S S′) where
   pub senior-agree : (r q : ℕ) → r < 64 → senior S r q ≡ senior S′ r q
@@ -198,7 +238,7 @@ module _ {S S′ : State} (a : Agree S S′) where
 
   apart : Separated S → Separated S′
   apart f =
-      separated-less S S′ f (a .sets) (λ u q h e. authorised-agree u q h ∙ e) (λ s r hs hr m. ap (λ (w : ℕ). has w r) (a .active s hs) ∙ m)
+      separated-less S S′ f (a .sets) (λ u q h l e. authorised-agree u q h ∙ e) (λ s r hs hr m. ap (λ (w : ℕ). has w r) (a .active s hs) ∙ m)
 
   -- what agrees with a sound state is sound
   pub agree-sound : Sound S → Sound S′
@@ -216,6 +256,7 @@ module _ {S S′ : State} (a : Agree S S′) where
         sym (may-activate-agree s r hs (f .owners-known s hs)) ∙ f .active-authorised s r hs hr (ap (λ (w : ℕ). has w r) (a .active s hs) ∙ m);
     openings-effective = λ s x o hs hx ho m.
         sym (effective-agree s x o hs hx ho) ∙ f .openings-effective s x o hs hx ho (ap (λ (w : ℕ). has w o) (a .holds s x hs hx) ∙ m);
+    is-linked = linked-agree (f .is-linked) (a .juniors) (a .direct);
     is-separated = apart (f .is-separated);
   }
 

@@ -5,8 +5,8 @@ use mathlib.Core.Bool.{true, false}
 use mathlib.Core.List.{List, [], _∷_}
 use lib.Dec.{leb, ltb}
 use lib.ListN.{length, getD}
-use borrow.Author.Tests.{leb-true, le-leb, lt-leb, ltb-true, lt-ltb}
-use Rattle.bits.specs.Words.{_and_, if_then_else_, has, subset, pack}
+use borrow.Author.Tests.{leb-true, le-leb, lt-leb, ltb-true, lt-ltb, le-ltb}
+use Rattle.bits.specs.Words.{_and_, if_then_else_, has, subset, pack, tabulate}
 use Rattle.bits.specs.Sets.{each, overlap}
 use Rattle.bits.proofs.Truth.{clash, is-false, and-intro, and-left, and-right, true-and, false-and, and-false, if-true, if-false}
 use Rattle.bits.proofs.Word.{has-zero, pack-cong, pack-none}
@@ -14,11 +14,11 @@ use Rattle.bits.proofs.Members.{subset-pack, overlap-elim}
 use Rattle.table.specs.State.{State}
 use Rattle.table.specs.Authority.{permission, covers, authorised, mayActivate, effective}
 use Rattle.table.specs.Reading.{state}
-use Rattle.table.specs.Table.{tableLength, isTable, tabulate}
+use Rattle.table.specs.Table.{tableLength, isTable}
 use Rattle.table.specs.Answers.{coveredRoles, authorisedRoles, effectivePermissions, activatable, openable, overlay, clearedFrom}
 use Rattle.table.proofs.State.{effective-is}
 use Rattle.table.proofs.Table.{is-table, table-length}
-use Rattle.table.proofs.Tabulate.{length-tabulate, getD-tabulate, tabulate-cong}
+use Rattle.bits.proofs.Tabulate.{length-tabulate, getD-tabulate, tabulate-cong}
 
 -- the permissions of mode x that are granted to the roles, where these are the active roles and their juniors
 pub granted-effective : (S : State) (s x roles : ℕ) → roles ≡ pack 64 (covers S (S .active s))
@@ -158,6 +158,10 @@ module _ (t : List ℕ) (at : ℕ) where
     unfolding overlay
     overlay-at i h k l =
         getD-tabulate (length t) _ 0 i l ∙ if-true _ _ (and-intro (le-leb at i h) (lt-ltb i (at + length words) k))
+
+    pub overlay-past : (i : ℕ) → at + length words ≤ i → i < length t → getD (overlay t at words) i 0 ≡ getD t i 0
+    unfolding overlay
+    overlay-past i h l = getD-tabulate (length t) _ 0 i l ∙ if-false _ _ (and-false (leb at i) (le-ltb i (at + length words) h))
 
     pub overlay-before : (i : ℕ) → i < at → i < length t → getD (overlay t at words) i 0 ≡ getD t i 0
     unfolding overlay

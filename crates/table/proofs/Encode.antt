@@ -11,11 +11,11 @@ use lib.Seq.{ext-getD, getD-append-add, getD-set-same, getD-set-other, set-appen
 use borrow.Author.Tests.{eqb-true, eqb-false, ltb-true, ltb-false}
 use Rattle.bits.proofs.Truth.{by-truth}
 use Rattle.table.specs.State.{State}
-use Rattle.bits.specs.Words.{upd}
-use Rattle.table.specs.Changes.{withAssigned, withGranted, withOwner, withActive, withHolds, setSets}
-use Rattle.table.specs.Reading.{juniorsAt, permittedAt, assignedAt, grantedAt, ownerAt, activeAt, holdsAt, setsAt, word, state}
-use Rattle.table.specs.Table.{tableLength, tabulate, encode}
-use Rattle.table.proofs.Tabulate.{length-tabulate, getD-tabulate, tabulate-cong}
+use Rattle.bits.specs.Words.{upd, tabulate}
+use Rattle.table.specs.Changes.{withAssigned, withGranted, withOwner, withActive, withHolds, setSets, setSeniority}
+use Rattle.table.specs.Reading.{juniorsAt, permittedAt, assignedAt, grantedAt, ownerAt, activeAt, holdsAt, setsAt, directAt, word, state}
+use Rattle.table.specs.Table.{tableLength, encode}
+use Rattle.bits.proofs.Tabulate.{length-tabulate, getD-tabulate, tabulate-cong}
 use Rattle.table.proofs.Upd.{upd-same, upd-other, by-upd}
 
 -- ---- agreement, over the users, roles, objects, sessions and modes that there are
@@ -29,6 +29,7 @@ pub record Agree (S S′ : State) : Type 0 where
   pub active : (s : ℕ) → s < 32 → S .active s ≡ S′ .active s
   pub holds : (s x : ℕ) → s < 32 → x < 8 → S .holds s x ≡ S′ .holds s x
   pub sets : (i : ℕ) → i < 64 → S .sets i ≡ S′ .sets i
+  pub direct : (r : ℕ) → r < 64 → S .direct r ≡ S′ .direct r
 
 -- ---- reading the table of a state
 
@@ -41,8 +42,11 @@ later n f ys i j e =
     ∙ getD-append-add (tabulate n f) ys i 0
 
 module _ (S : State) where
+  abbrev from-direct : List ℕ
+  from-direct = tabulate 64 (S .direct)
+
   abbrev from-sets : List ℕ
-  from-sets = tabulate 64 (S .sets)
+  from-sets = tabulate 64 (S .sets) ++ from-direct
 
   abbrev from-holds : List ℕ
   from-holds = tabulate 256 (λ i. S .holds (i / 8) (i % 8)) ++ from-sets
@@ -79,6 +83,9 @@ module _ (S : State) where
       ∙ later 32 _ from-active (32 + i) (64 + i) (omega arith)
       ∙ later 32 _ from-holds i (32 + i) refl
 
+  at-sets : (i j : ℕ) → j ≡ 968 + i → getD (encode S) j 0 ≡ getD from-sets i 0
+  at-sets i j e = at-holds (256 + i) j (omega arith) ∙ later 256 _ from-sets i (256 + i) refl
+
   pub state-encode : Agree (state (encode S)) S
   unfolding encode
   state-encode = record {
@@ -96,7 +103,8 @@ module _ (S : State) where
         at-holds (8 * s + x) (holdsAt s x) (omega arith)
         ∙ first 256 _ from-sets (8 * s + x) (omega arith)
         ∙ ap₂ (λ (y p : ℕ). S .holds y p) (div-mode s x hx) (mod-mode s x hx);
-    sets = λ i h. at-holds (256 + i) (setsAt i) (omega arith) ∙ later 256 _ from-sets i (256 + i) refl ∙ getD-tabulate 64 _ 0 i h;
+    sets = λ i h. at-sets i (setsAt i) refl ∙ first 64 _ from-direct i h;
+    direct = λ r h. at-sets (64 + r) (directAt r) (omega arith) ∙ later 64 _ from-direct r (64 + r) refl ∙ getD-tabulate 64 _ 0 r h;
   }
     where
       div-row : (x o : ℕ) → o < 64 → (64 * x + o) / 64 ≡ x
@@ -121,8 +129,8 @@ module _ (S : State) where
 by-place : (P : ℕ → Type 0)
     → ((r : ℕ) → r < 64 → P (juniorsAt r)) → ((x : ℕ) → x < 8 → P (permittedAt x)) → ((u : ℕ) → u < 64 → P (assignedAt u))
     → ((x o : ℕ) → x < 8 → o < 64 → P (grantedAt x o)) → ((s : ℕ) → s < 32 → P (ownerAt s)) → ((s : ℕ) → s < 32 → P (activeAt s))
-    → ((s x : ℕ) → s < 32 → x < 8 → P (holdsAt s x)) → ((i : ℕ) → i < 64 → P (setsAt i)) → (i : ℕ) → i < tableLength → P i
-by-place P j p a g o c h n i l =
+    → ((s x : ℕ) → s < 32 → x < 8 → P (holdsAt s x)) → ((i : ℕ) → i < 64 → P (setsAt i)) → ((r : ℕ) → r < 64 → P (directAt r)) → (i : ℕ) → i < tableLength → P i
+by-place P j p a g o c h n d i l =
     on 64 (λ b. j i b) (λ b1.
     on 72 (λ b. subst P (omega arith) (p (i - 64) (omega arith))) (λ b2.
     on 136 (λ b. subst P (omega arith) (a (i - 72) (omega arith))) (λ b3.
@@ -130,7 +138,8 @@ by-place P j p a g o c h n i l =
     on 680 (λ b. subst P (omega arith) (o (i - 648) (omega arith))) (λ b5.
     on 712 (λ b. subst P (omega arith) (c (i - 680) (omega arith))) (λ b6.
     on 968 (λ b. subst P (holds-place b6) (h ((i - 712) / 8) ((i - 712) % 8) (omega arith) (omega arith))) (λ b7.
-    subst P (omega arith) (n (i - 968) (omega arith)))))))))
+    on 1032 (λ b. subst P (omega arith) (n (i - 968) (omega arith))) (λ b8.
+    subst P (omega arith) (d (i - 1032) (omega arith))))))))))
   where
     on : (n : ℕ) → (i < n → P i) → (n ≤ i → P i) → P i
     on n f g = by-truth (ltb i n) (λ e. f (ltb-true i n e)) (λ e. g (ltb-false i n e))
@@ -151,7 +160,8 @@ encode-cong {S} {S′} a =
     (ap₂ _++_ (tabulate-cong 32 (a .owner))
     (ap₂ _++_ (tabulate-cong 32 (a .active))
     (ap₂ _++_ (tabulate-cong 256 (λ i h. a .holds (i / 8) (i % 8) (omega arith) (omega arith)))
-    (tabulate-cong 64 (a .sets))))))))
+    (ap₂ _++_ (tabulate-cong 64 (a .sets))
+    (tabulate-cong 64 (a .direct)))))))))
 
 -- states with the same table agree
 pub agreed : {S S′ : State} → encode S ≡ encode S′ → Agree S S′
@@ -164,6 +174,7 @@ agreed {S} {S′} e = record {
   active = λ s h. same (activeAt s) (state-encode S .active s h) (state-encode S′ .active s h);
   holds = λ s x h k. same (holdsAt s x) (state-encode S .holds s x h k) (state-encode S′ .holds s x h k);
   sets = λ i h. same (setsAt i) (state-encode S .sets i h) (state-encode S′ .sets i h);
+  direct = λ r h. same (directAt r) (state-encode S .direct r h) (state-encode S′ .direct r h);
 }
   where
     same : (i : ℕ) {v w : ℕ} → word (encode S) i ≡ v → word (encode S′) i ≡ w → v ≡ w
@@ -172,7 +183,7 @@ agreed {S} {S′} e = record {
 pub same-table : (t t′ : List ℕ) → length t ≡ tableLength → length t′ ≡ tableLength → Agree (state t) (state t′) → t ≡ t′
 same-table t t′ e e′ a =
     ext-getD 0 t t′ (e ∙ sym e′)
-    (λ i h. by-place (λ k. word t k ≡ word t′ k) (a .juniors) (a .permitted) (a .assigned) (a .granted) (a .owner) (a .active) (a .holds) (a .sets) i (omega arith))
+    (λ i h. by-place (λ k. word t k ≡ word t′ k) (a .juniors) (a .permitted) (a .assigned) (a .granted) (a .owner) (a .active) (a .holds) (a .sets) (a .direct) i (omega arith))
 
 -- the state that a table shows
 pub encode-state : (t : List ℕ) → length t ≡ tableLength → t ≡ encode (state t)
@@ -189,7 +200,7 @@ append-later (x ∷ xs) ys i v =
     ap (λ (k : ℕ). set (x ∷ (xs ++ ys)) k v) (suc-add (length xs) i) ∙ ap (λ (l : List ℕ). x ∷ l) (append-later xs ys i v)
 
 module _ (n : ℕ) (f : ℕ → ℕ) where
-  set-tabulate : (i v : ℕ) → i < n → set (tabulate n f) i v ≡ tabulate n (upd f i v)
+  pub set-tabulate : (i v : ℕ) → i < n → set (tabulate n f) i v ≡ tabulate n (upd f i v)
   set-tabulate i v h =
       ext-getD 0 (set (tabulate n f) i v) (tabulate n (upd f i v)) (length-set (tabulate n f) i v ∙ length-tabulate n f ∙ sym (length-tabulate n (upd f i v)))
       (λ j k.
@@ -275,4 +286,11 @@ module _ {t : List ℕ} (S : State) (z : t ≡ encode S) where
   write-sets i v h =
       on (setsAt i) v
       ∙ past-granted S (320 + i) (setsAt i) v (omega arith) (past 32 _ _ (288 + i) (320 + i) v (omega arith) (past 32 _ _ (256 + i) (288 + i) v (omega arith) (past 256 _ _ i (256 + i) v refl
-      (set-tabulate 64 _ i v h))))
+      (set-first 64 _ _ i v h))))
+
+  pub write-direct : (r v : ℕ) → r < 64 → set t (directAt r) v ≡ encode (setSeniority S (S .juniors) (upd (S .direct) r v))
+  unfolding encode
+  write-direct r v h =
+      on (directAt r) v
+      ∙ past-granted S (384 + r) (directAt r) v (omega arith) (past 32 _ _ (352 + r) (384 + r) v (omega arith) (past 32 _ _ (320 + r) (352 + r) v (omega arith) (past 256 _ _ (64 + r) (320 + r) v (omega arith)
+      (past 64 _ _ r (64 + r) v refl (set-tabulate 64 _ r v h)))))

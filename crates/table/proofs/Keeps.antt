@@ -1,22 +1,24 @@
 -- What keeps a state sound: for each word that a request replaces, what the new word must meet. Assumes nothing.
 use Prim.Native.Nat.{ℕ, suc, _+_, _*_, _-_, _≤_, _<_}
 use mathlib.Core.Path.{_≡_, refl, sym, ap, ap₂, subst, _∙_}
-use mathlib.Core.Bool.{true, not}
+use mathlib.Core.Bool.{true, false, not}
 use native.Mathlib.Omega.{arith}
 use lib.Dec.{eqb}
 use borrow.Author.Tests.{eqb-true, eqb-false}
 use Rattle.bits.specs.Words.{_and_, upd, has}
 use Rattle.bits.specs.Sets.{some}
-use Rattle.bits.proofs.Truth.{clash, by-truth}
+use Rattle.bits.proofs.Truth.{clash, by-truth, and-intro, and-left, and-right}
 use Rattle.bits.proofs.Word.{has-zero}
 use Rattle.bits.proofs.Members.{not-empty}
 use Rattle.table.specs.State.{State}
-use Rattle.table.specs.Authority.{permission, idle, user, covers, authorised, mayActivate, effective}
-use Rattle.table.specs.Changes.{withAssigned, withGranted, withOwner, withActive, withHolds, withSet}
+use Rattle.table.specs.Authority.{senior, permission, idle, user, covers, authorised, mayActivate, effective}
+use Rattle.table.specs.Changes.{setDirect, withAssigned, withGranted, withOwner, withActive, withHolds, withSet}
+use Rattle.table.specs.Seniority.{Linked}
 use Rattle.table.specs.Separation.{mask, bound, Fewer, GoodPair, Separated}
 use Rattle.table.specs.Sound.{Sound}
 use Rattle.table.proofs.State.{authorised-intro, authorised-elim, effective-intro, effective-elim, may-activate-busy}
 use Rattle.table.proofs.Agree.{upd-same, upd-other, by-upd, grid-same, by-grid}
+use Rattle.table.proofs.Seniority.{closedRow, closure-linked, linked-reflexive, linked-transitive}
 use Rattle.table.proofs.Separation.{separated-less}
 
 -- ---- what authorised roles and effective permissions hang on
@@ -35,17 +37,26 @@ module _ (S S′ : State) (j : S .juniors ≡ S′ .juniors) where
   unfolding effective
   effective-same s x o p g a = λ i. has (p i x) o and some (a i) (λ r. some (g i) (λ q. has (j i r) q))
 
-  -- more roles assigned, more roles active, more roles granted
-  pub authorised-more : (u q : ℕ) → ((r : ℕ) → r < 64 → has (S .assigned u) r ≡ true → has (S′ .assigned u) r ≡ true)
+-- a role senior to no fewer, more roles assigned, more roles active, more roles granted
+module _ (S S′ : State) (j : (r q : ℕ) → r < 64 → q < 64 → senior S r q ≡ true → senior S′ r q ≡ true) where
+  pub authorised-more : (u q : ℕ) → q < 64 → ((r : ℕ) → r < 64 → has (S .assigned u) r ≡ true → has (S′ .assigned u) r ≡ true)
       → authorised S u q ≡ true → authorised S′ u q ≡ true
-  authorised-more u q k e =
+  authorised-more u q h k e =
       let a = authorised-elim S u q e in
       authorised-intro S′ u q (record {
         role = a .role;
         below = a .below;
         assigned-to = k (a .role) (a .below) (a .assigned-to);
-        senior-to = sym (ap (λ (f : ℕ → ℕ). has (f (a .role)) q) j) ∙ a .senior-to;
+        senior-to = j (a .role) q (a .below) h (a .senior-to);
       })
+
+  pub may-activate-more : (s q : ℕ) → q < 64 → S .owner s ≡ S′ .owner s
+      → ((u r : ℕ) → r < 64 → has (S .assigned u) r ≡ true → has (S′ .assigned u) r ≡ true)
+      → mayActivate S s q ≡ true → mayActivate S′ s q ≡ true
+  unfolding mayActivate
+  may-activate-more s q h o k e =
+      and-intro (sym (ap (λ (w : ℕ). not (eqb w 0)) o) ∙ and-left _ _ e)
+      (ap (λ (w : ℕ). authorised S′ (w - 1) q) (sym o) ∙ authorised-more (user S s) q h (k (user S s)) (and-right (not (idle S s)) _ e))
 
   pub effective-more : (s x o : ℕ) → S .permitted ≡ S′ .permitted
       → ((r : ℕ) → r < 64 → has (S .granted x o) r ≡ true → has (S′ .granted x o) r ≡ true)
@@ -60,7 +71,7 @@ module _ (S S′ : State) (j : S .juniors ≡ S′ .juniors) where
         active-in = k (f .role) (f .below) (f .active-in);
         junior = f .junior;
         junior-below = f .junior-below;
-        senior-to = sym (ap (λ (w : ℕ → ℕ). has (w (f .role)) (f .junior)) j) ∙ f .senior-to;
+        senior-to = j (f .role) (f .junior) (f .below) (f .junior-below) (f .senior-to);
         granted-to = g (f .junior) (f .junior-below) (f .granted-to);
       })
 
@@ -100,7 +111,7 @@ pub same-separated : (S S′ : State) → Separated S → S′ .sets ≡ S .sets
     → S′ .active ≡ S .active → Separated S′
 same-separated S S′ f e j a c =
     separated-less S S′ f (λ i h. sym (ap (λ (w : ℕ → ℕ). w i) e))
-    (λ u q h k. sym (authorised-same S′ S j u q (ap (λ (w : ℕ → ℕ). w u) a)) ∙ k)
+    (λ u q h l k. sym (authorised-same S′ S j u q (ap (λ (w : ℕ → ℕ). w u) a)) ∙ k)
     (λ s r hs hr m. sym (ap (λ (w : ℕ → ℕ). has (w s) r) c) ∙ m)
 
 module _ (S : State) (f : Separated S) where
@@ -117,14 +128,14 @@ module _ (S : State) (f : Separated S) where
   pub active-less : (s w : ℕ) → ((r : ℕ) → r < 64 → has w r ≡ true → has (S .active s) r ≡ true) → Separated (withActive S s w)
   unfolding covers authorised
   active-less s w k =
-      separated-less S (withActive S s w) f (λ i h. refl) (λ u q h e. e) (λ p r hp hr m.
+      separated-less S (withActive S s w) f (λ i h. refl) (λ u q h l e. e) (λ p r hp hr m.
       by-upd (S .active) s w (λ (v : ℕ). has v r ≡ true → has (S .active p) r ≡ true) p
       (λ e q. ap (λ (n : ℕ). has (S .active n) r) e ∙ k r hr q) (λ n q. q) m)
 
   pub assigned-less : (u w : ℕ) → ((r : ℕ) → r < 64 → has w r ≡ true → has (S .assigned u) r ≡ true) → Separated (withAssigned S u w)
   assigned-less u w k =
       separated-less S (withAssigned S u w) f (λ i h. refl)
-      (λ v q h e. authorised-more (withAssigned S u w) S refl v q (λ r hr m.
+      (λ v q h l e. authorised-more (withAssigned S u w) S (λ a b ha hb k. k) v q l (λ r hr m.
       by-upd (S .assigned) u w (λ (a : ℕ). has a r ≡ true → has (S .assigned v) r ≡ true) v
       (λ d l. ap (λ (n : ℕ). has (S .assigned n) r) d ∙ k r hr l) (λ n l. l) m) e)
       (λ p r hp hr m. m)
@@ -174,6 +185,7 @@ module _ (S : State) (f : Sound S) where
     openings-effective = λ p x o hp hx ho m.
         by-upd (S .holds) s w (λ (g : ℕ → ℕ). has (g x) o ≡ true → effective S p x o ≡ true) p
         (λ e q. ap (λ (n : ℕ). effective S n x o) e ∙ k x o hx ho q) (λ n q. f .openings-effective p x o hp hx ho q) m;
+    is-linked = f .is-linked;
     is-separated = same-separated S _ (f .is-separated) refl refl refl refl;
   }
 
@@ -205,6 +217,7 @@ module _ (S : State) (f : Sound S) where
         (λ b.
         effective-same (withActive S s w) S refl p x o refl refl (upd-other (S .active) s w p (eqb-false p s b))
         ∙ f .openings-effective p x o hp hx ho m);
+    is-linked = f .is-linked;
     is-separated = d;
   }
 
@@ -234,6 +247,7 @@ module _ (S : State) (f : Sound S) where
         authorised-same S′ S refl (user S s) r (upd-other (S .assigned) u w (user S s) (eqb-false (user S s) u b))
         ∙ sym (may-activate-busy S s r i) ∙ f .active-authorised s r hs hr m));
     openings-effective = f .openings-effective;
+    is-linked = f .is-linked;
     is-separated = d;
   }
     where
@@ -263,6 +277,7 @@ module _ (S : State) (f : Sound S) where
         by-grid (S .granted) x o w y p
         (λ e e′. ap₂ (λ (a b : ℕ). effective S′ s a b) e e′ ∙ l s hs (sym (ap₂ (λ (a b : ℕ). has (S .holds s a) b) e e′) ∙ m))
         (λ e. effective-same S′ S refl s y p refl e refl ∙ f .openings-effective s y p hs hy hp m);
+    is-linked = f .is-linked;
     is-separated = same-separated S _ (f .is-separated) refl refl refl refl;
   }
     where
@@ -287,6 +302,7 @@ module _ (S : State) (f : Sound S) where
         may-activate-same (withOwner S s (suc u)) S refl p r refl (upd-other (S .owner) s (suc u) p (eqb-false p s b))
         ∙ f .active-authorised p r hp hr m);
     openings-effective = f .openings-effective;
+    is-linked = f .is-linked;
     is-separated = same-separated S _ (f .is-separated) refl refl refl refl;
   }
     where
@@ -315,6 +331,7 @@ module _ (S : State) (f : Sound S) where
         by-upd (S .holds) s (λ x. 0) (λ (g : ℕ → ℕ). has (g x) o ≡ true → effective S′ p x o ≡ true) p
         (λ e q. clash q (has-zero o))
         (λ n q. effective-same S′ S refl p x o refl refl (upd-other (S .active) s 0 p n) ∙ f .openings-effective p x o hp hx ho q) m;
+    is-linked = f .is-linked;
     is-separated = ended-separated S (f .is-separated) s;
   }
     where
@@ -323,3 +340,28 @@ module _ (S : State) (f : Sound S) where
 
       other-idle : (p : ℕ) → (p ≡ s → ⊥) → idle S′ p ≡ idle S p
       other-idle p n = ap (λ (v : ℕ). eqb v 0) (upd-other (S .owner) s 0 p n)
+
+  -- other direct juniors: no two roles reach each other, and active roles, openings and sets fit the new seniority
+  pub direct-keeps : (d : ℕ → ℕ) → let S′ = setDirect S d in
+      ((r : ℕ) → r < 64 → has (d r) r ≡ false)
+      → ((r q : ℕ) → r < 64 → q < 64 → senior S′ r q ≡ true → senior S′ q r ≡ true → r ≡ q)
+      → ((s r : ℕ) → s < 32 → r < 64 → has (S .active s) r ≡ true → mayActivate S′ s r ≡ true)
+      → ((s x o : ℕ) → s < 32 → x < 8 → o < 64 → has (S .holds s x) o ≡ true → effective S′ s x o ≡ true)
+      → Separated S′
+      → Sound S′
+  direct-keeps d o w a e k = record {
+    is-reflexive = linked-reflexive l;
+    is-transitive = linked-transitive l;
+    is-antisymmetric = w;
+    grants-permitted = f .grants-permitted;
+    owners-known = f .owners-known;
+    idle-no-roles = f .idle-no-roles;
+    idle-no-openings = f .idle-no-openings;
+    active-authorised = a;
+    openings-effective = e;
+    is-linked = l;
+    is-separated = k;
+  }
+    where
+      l : Linked (closedRow d) d
+      l = closure-linked (closedRow d) d o (λ r h. refl)

@@ -1,13 +1,14 @@
 -- The crate's laws, in reading order.
 pub mod State
+pub mod Upd
+pub mod Seniority
 pub mod Separation
 pub mod Sound
 pub mod Claims
-pub mod Upd
 pub mod Agree
 pub mod Keeps
-pub mod Tabulate
 pub mod Table
 pub mod Encode
 pub mod Answers
+pub mod Relinking
 pub mod Bench

@@ -1,11 +1,11 @@
 -- Separation of duties and its plain facts: each from the other. Nothing else opens the definitions. Assumes nothing.
 use Prim.Native.Nat.{ℕ, _+_, _*_, _<_}
-use mathlib.Core.Path.{_≡_, sym, ap, subst, _∙_}
+use mathlib.Core.Path.{_≡_, refl, sym, ap, subst, _∙_}
 use mathlib.Core.Bool.{Bool, true, false, not}
 use native.Mathlib.Omega.{arith}
 use lib.Dec.{eqb, ltb}
 use borrow.Author.Tests.{eqb-false, eq-eqb, ne-eqb, ltb-true, ltb-false, lt-ltb, not-true}
-use Rattle.bits.specs.Words.{_and_, _or_, has, all}
+use Rattle.bits.specs.Words.{_and_, _or_, has}
 use Rattle.bits.specs.Sets.{size, meet}
 use Rattle.bits.proofs.Truth.{clash, by-truth, is-false, not-intro, and-intro, and-left, and-right, true-and, false-and, and-false, or-left, or-right, or-elim, false-or}
 use Rattle.bits.proofs.Below.{all-intro, all-elim}
@@ -13,7 +13,7 @@ use Rattle.bits.proofs.Word.{has-zero}
 use Rattle.bits.proofs.Counting.{count-le, count-cong, count-none, size-meet}
 use Rattle.table.specs.State.{State}
 use Rattle.table.specs.Authority.{authorised}
-use Rattle.table.specs.Separation.{mask, bound, emptyPair, badPair, included, fewer, staticSetsHold, dynamicSetsHold, setsEmpty, separated, Fewer, GoodPair, Separated}
+use Rattle.table.specs.Separation.{mask, bound, emptyPair, badPair, included, fewer, staticSetsHold, dynamicSetsHold, pairsGood, setsEmpty, separated, Fewer, GoodPair, Separated}
 
 -- ---- one pair
 
@@ -107,6 +107,10 @@ module _ (S : State) where
       (and-intro (all-intro _ 16 (λ n hn. all-intro _ 32 (λ s hs. fewer-intro _ _ _ (f .dynamic-holds n s hn hs))))
       (all-intro _ 32 (λ n h. not-intro (good-intro _ _ (f .pairs-good n h)))))
 
+  pub separated-parts : separated S ≡ staticSetsHold S and (dynamicSetsHold S and pairsGood S)
+  unfolding separated
+  separated-parts = refl
+
   -- without sets
   pub empty-separated : setsEmpty S ≡ true → separated S ≡ true
   unfolding emptyPair
@@ -121,11 +125,11 @@ module _ (S : State) where
 
 -- a state with the same sets, where no user has more authorised roles and no session more active ones
 pub separated-less : (S S′ : State) → Separated S → ((i : ℕ) → i < 64 → S .sets i ≡ S′ .sets i)
-    → ((u q : ℕ) → u < 64 → authorised S′ u q ≡ true → authorised S u q ≡ true)
+    → ((u q : ℕ) → u < 64 → q < 64 → authorised S′ u q ≡ true → authorised S u q ≡ true)
     → ((s r : ℕ) → s < 32 → r < 64 → has (S′ .active s) r ≡ true → has (S .active s) r ≡ true) → Separated S′
 separated-less S S′ f e k l = record {
   static-holds = λ n u hn hu.
-      less-fewer _ _ (authorised S u) (authorised S′ u) (λ q h. k u q hu)
+      less-fewer _ _ (authorised S u) (authorised S′ u) (λ q h. k u q hu h)
       (same n (λ m b. Fewer m b (authorised S u)) (omega arith) (f .static-holds n u hn hu));
   dynamic-holds = λ n s hn hs.
       less-fewer _ _ (has (S .active s)) (has (S′ .active s)) (λ r. l s r hs)

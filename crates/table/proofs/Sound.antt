@@ -11,11 +11,22 @@ use Rattle.bits.proofs.Members.{each-intro, each-elim}
 use Rattle.table.specs.State.{State}
 use Rattle.table.specs.Authority.{senior, idle, covers, authorised, mayActivate, effective}
 use Rattle.table.specs.Changes.{setSets}
+use Rattle.table.specs.Seniority.{ownClear, closed}
 use Rattle.table.specs.Separation.{separated}
 use Rattle.table.specs.Sound.{reflexive, transitive, antisymmetric, grantsPermitted, ownersKnown, idleEmpty, activeAuthorised, openingsEffective, rolesSound, sound, Sound}
+use Rattle.table.proofs.Seniority.{linked-elim, own-clear-intro, closed-intro}
 use Rattle.table.proofs.Separation.{separated-elim, separated-intro}
 
 module _ (S : State) where
+  pub reflexive-elim : reflexive S ≡ true → (r : ℕ) → r < 64 → senior S r r ≡ true
+  unfolding reflexive
+  reflexive-elim e r h = all-elim _ 64 e r h
+
+  pub transitive-elim : transitive S ≡ true → (r q p : ℕ) → r < 64 → q < 64 → p < 64
+      → senior S r q ≡ true → senior S q p ≡ true → senior S r p ≡ true
+  unfolding transitive
+  transitive-elim e r q p hr hq hp a b = each-elim _ _ (each-elim _ _ (all-elim _ 64 e r hr) q hq a) p hp b
+
   pub sound-elim : sound S ≡ true → Sound S
   unfolding sound rolesSound reflexive transitive antisymmetric grantsPermitted ownersKnown idleEmpty activeAuthorised openingsEffective
   sound-elim e =
@@ -26,12 +37,13 @@ module _ (S : State) where
       let e5 = and-right (grantsPermitted S) _ e4 in
       let e6 = and-right (ownersKnown S) _ e5 in
       let e7 = and-right (idleEmpty S) _ e6 in
+      let e8 = and-right (activeAuthorised S) _ e7 in
+      let e9 = and-right (openingsEffective S) _ e8 in
       let empty : (s : ℕ) → s < 32 → idle S s ≡ true → eqb (S .active s) 0 and all 8 (λ x. eqb (S .holds s x) 0) ≡ true =
       λ s h i. implies-elim (idle S s) _ (all-elim _ 32 (and-left (idleEmpty S) _ e6) s h) i in
       record {
-        is-reflexive = λ r h. all-elim _ 64 (and-left (reflexive S) _ e1) r h;
-        is-transitive = λ r q p hr hq hp a b.
-            each-elim _ _ (each-elim _ _ (all-elim _ 64 (and-left (transitive S) _ e2) r hr) q hq a) p hp b;
+        is-reflexive = reflexive-elim (and-left (reflexive S) _ e1);
+        is-transitive = transitive-elim (and-left (transitive S) _ e2);
         is-antisymmetric = λ r q hr hq a b.
             eqb-true r q (implies-elim (senior S q r) _ (each-elim _ _ (all-elim _ 64 (and-left (antisymmetric S) _ e3) r hr) q hq a) b);
         grants-permitted = λ x o r hx ho hr m.
@@ -42,7 +54,8 @@ module _ (S : State) where
             eqb-true (S .holds s x) 0 (all-elim _ 8 (and-right (eqb (S .active s) 0) _ (empty s hs i)) x hx);
         active-authorised = λ s r hs hr m. each-elim _ _ (all-elim _ 32 (and-left (activeAuthorised S) _ e7) s hs) r hr m;
         openings-effective = λ s x o hs hx ho m.
-            each-elim _ _ (all-elim _ 8 (all-elim _ 32 (and-right (activeAuthorised S) _ e7) s hs) x hx) o ho m;
+            each-elim _ _ (all-elim _ 8 (all-elim _ 32 (and-left (openingsEffective S) _ e8) s hs) x hx) o ho m;
+        is-linked = linked-elim S (and-left (ownClear S) _ e9) (and-right (ownClear S) _ e9);
         is-separated = separated-elim S (and-right (rolesSound S) _ e);
       }
 
@@ -63,15 +76,16 @@ module _ (S : State) where
       and-intro (eq-eqb (S .active s) 0 (f .idle-no-roles s hs i))
       (all-intro _ 8 (λ x hx. eq-eqb (S .holds s x) 0 (f .idle-no-openings s x hs hx i))))))
       (and-intro (all-intro _ 32 (λ s hs. each-intro _ _ (λ r hr m. f .active-authorised s r hs hr m)))
-      (all-intro _ 32 (λ s hs. all-intro _ 8 (λ x hx. each-intro _ _ (λ o ho m. f .openings-effective s x o hs hx ho m)))))))))))
+      (and-intro (all-intro _ 32 (λ s hs. all-intro _ 8 (λ x hx. each-intro _ _ (λ o ho m. f .openings-effective s x o hs hx ho m))))
+      (and-intro (own-clear-intro S (f .is-linked)) (closed-intro S (f .is-linked)))))))))))
       (separated-intro S (f .is-separated))
 
--- what 01 asks, and the sets
+-- what 01 asks and the links, and the sets
 pub sound-is : (S : State) → sound S ≡ rolesSound S and separated S
 unfolding sound
 sound-is S = refl
 
 -- 01 asks nothing of the sets
 pub sets-roles-sound : (S : State) (f : ℕ → ℕ) → rolesSound (setSets S f) ≡ rolesSound S
-unfolding rolesSound reflexive transitive antisymmetric grantsPermitted ownersKnown idleEmpty activeAuthorised openingsEffective covers authorised mayActivate effective
+unfolding rolesSound reflexive transitive antisymmetric grantsPermitted ownersKnown idleEmpty activeAuthorised openingsEffective ownClear closed covers authorised mayActivate effective
 sets-roles-sound S f = refl

@@ -1,8 +1,8 @@
 -- What the public functions answer, for a list of any length and any number: nothing of a list that is no table, nor of a
 -- user, session, mode or object that there is not.
-use Rattle.bits.specs.Words.{ℕ, _+_, _-_, Bool, List, leb, ltb, length, getD, _and_, if_then_else_, pack}
+use Rattle.bits.specs.Words.{ℕ, _+_, _-_, Bool, List, leb, ltb, length, getD, _and_, if_then_else_, pack, tabulate}
 use Rattle.table.specs.Authority.{covers, authorised, mayActivate, effective}
-use Rattle.table.specs.Table.{isTable, tabulate}
+use Rattle.table.specs.Table.{isTable}
 use Rattle.table.specs.Reading.{state}
 
 -- the roles and all their juniors

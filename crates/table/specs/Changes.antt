@@ -1,6 +1,8 @@
--- A state with one of its sections replaced, and with one of its words.
-use Rattle.bits.specs.Words.{ℕ, _+_, _*_, upd}
+-- A state with one of its sections replaced, and with one of its words; the juniors follow the direct ones.
+use Rattle.bits.specs.Words.{ℕ, _+_, _*_, getD, upd}
+use Rattle.closure.specs.Closure.{closure}
 use Rattle.table.specs.State.{State}
+use Rattle.table.specs.Seniority.{links}
 
 abbrev pub setAssigned : State → (ℕ → ℕ) → State
 setAssigned S f = record {
@@ -12,6 +14,7 @@ setAssigned S f = record {
   active = S .active;
   holds = S .holds;
   sets = S .sets;
+  direct = S .direct;
 }
 
 abbrev pub setGranted : State → (ℕ → ℕ → ℕ) → State
@@ -24,6 +27,7 @@ setGranted S f = record {
   active = S .active;
   holds = S .holds;
   sets = S .sets;
+  direct = S .direct;
 }
 
 abbrev pub setOwner : State → (ℕ → ℕ) → State
@@ -36,6 +40,7 @@ setOwner S f = record {
   active = S .active;
   holds = S .holds;
   sets = S .sets;
+  direct = S .direct;
 }
 
 abbrev pub setActive : State → (ℕ → ℕ) → State
@@ -48,6 +53,7 @@ setActive S f = record {
   active = f;
   holds = S .holds;
   sets = S .sets;
+  direct = S .direct;
 }
 
 abbrev pub setHolds : State → (ℕ → ℕ → ℕ) → State
@@ -60,6 +66,7 @@ setHolds S f = record {
   active = S .active;
   holds = f;
   sets = S .sets;
+  direct = S .direct;
 }
 
 abbrev pub setSets : State → (ℕ → ℕ) → State
@@ -72,7 +79,25 @@ setSets S f = record {
   active = S .active;
   holds = S .holds;
   sets = f;
+  direct = S .direct;
 }
+
+abbrev pub setSeniority : State → (ℕ → ℕ) → (ℕ → ℕ) → State
+setSeniority S f g = record {
+  juniors = f;
+  permitted = S .permitted;
+  assigned = S .assigned;
+  granted = S .granted;
+  owner = S .owner;
+  active = S .active;
+  holds = S .holds;
+  sets = S .sets;
+  direct = g;
+}
+
+-- the direct juniors, and with them the juniors: their closure
+abbrev pub setDirect : State → (ℕ → ℕ) → State
+setDirect S f = setSeniority S (λ r. getD (closure (links f)) r 0) f
 
 abbrev pub withAssigned : State → ℕ → ℕ → State
 withAssigned S u w = setAssigned S (upd (S .assigned) u w)
@@ -93,3 +118,7 @@ withHolds S s f = setHolds S (upd (S .holds) s f)
 -- the roles and the bound of separation set n
 abbrev pub withSet : State → ℕ → ℕ → ℕ → State
 withSet S n m b = setSets S (upd (upd (S .sets) (2 * n) m) (2 * n + 1) b)
+
+-- the direct juniors of role r, and the closure of all
+abbrev pub withDirect : State → ℕ → ℕ → State
+withDirect S r w = setDirect S (upd (S .direct) r w)

@@ -1,10 +1,13 @@
 -- What is claimed of the definitions themselves, each as the answer to a question. proofs/Claims.antt proves them.
 use mathlib.Core.Logic.{_↔_}
-use Rattle.bits.specs.Words.{ℕ, _≡_, true}
+use Rattle.bits.specs.Words.{ℕ, _^_, _<_, _≡_, true}
 use Rattle.table.specs.State.{State}
-use Rattle.table.specs.Authority.{authorised, effective, Authorised, Effective}
+use Rattle.bits.specs.Sets.{_without_}
+use Rattle.closure.specs.Closure.{Reaches}
+use Rattle.table.specs.Authority.{senior, authorised, effective, Authorised, Effective}
+use Rattle.table.specs.Seniority.{links, Linked}
 use Rattle.table.specs.Separation.{separated, Separated}
-use Rattle.table.specs.Sound.{sound, Sound}
+use Rattle.table.specs.Sound.{reflexive, transitive, sound, Sound}
 
 -- When is a role authorised for a user? Exactly when some role assigned to the user is senior to it or is it.
 abbrev pub AuthorisedMeans : Type 0
@@ -13,6 +16,16 @@ AuthorisedMeans = (S : State) (u q : ℕ) → authorised S u q ≡ true ↔ Auth
 -- When is a pair effective for a session? Exactly when it is a permission, granted to an active role or to a junior of one.
 abbrev pub EffectiveMeans : Type 0
 EffectiveMeans = (S : State) (s x o : ℕ) → effective S s x o ≡ true ↔ Effective S s x o
+
+-- Which roles is a role of a sound state senior to, besides itself? Exactly those that a chain of its links reaches (02, S-5).
+abbrev pub SeniorityMeans : Type 0
+SeniorityMeans = (S : State) (r q : ℕ) → sound S ≡ true → r < 64 → q < 64 → senior S r q ≡ true ↔ Reaches (links (S .direct)) r q
+
+-- Which links make a seniority that is there already? Every junior but the role itself will do, as in a label image (02, S-5).
+abbrev pub EveryJuniorLinked : Type 0
+EveryJuniorLinked =
+    (S : State) → ((r : ℕ) → r < 64 → S .juniors r < 2 ^ 64) → reflexive S ≡ true → transitive S ≡ true
+    → Linked (S .juniors) (λ r. S .juniors r without r)
 
 -- When is a state separated? Exactly when the facts of `Separated` hold: of every pair that is not empty, that the bound is at
 -- least 2 and at most the number of its roles, and that no user's authorised roles, or no session's active ones, include as many.

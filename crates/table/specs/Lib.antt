@@ -1,6 +1,7 @@
 -- The crate's definitions, in reading order.
 pub mod State
 pub mod Authority
+pub mod Seniority
 pub mod Separation
 pub mod Sound
 pub mod Claims

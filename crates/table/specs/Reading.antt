@@ -29,6 +29,9 @@ holdsAt s x = 712 + 8 * s + x
 abbrev pub setsAt : ℕ → ℕ
 setsAt i = 968 + i
 
+abbrev pub directAt : ℕ → ℕ
+directAt r = 1032 + r
+
 -- ---- the state that a table shows
 
 abbrev pub word : List ℕ → ℕ → ℕ
@@ -44,4 +47,5 @@ state t = record {
   active = λ s. word t (activeAt s);
   holds = λ s x. word t (holdsAt s x);
   sets = λ i. word t (setsAt i);
+  direct = λ r. word t (directAt r);
 }

@@ -4,6 +4,7 @@ use Rattle.bits.specs.Words.{ℕ, _≤_, _<_, _≡_, Bool, true, eqb, leb, _and
 use Rattle.bits.specs.Sets.{each}
 use Rattle.table.specs.State.{State}
 use Rattle.table.specs.Authority.{senior, permission, idle, mayActivate, effective}
+use Rattle.table.specs.Seniority.{ownClear, closed, Linked}
 use Rattle.table.specs.Separation.{separated, Separated}
 
 -- seniority is reflexive, transitive and has no two different roles each senior to the other
@@ -36,7 +37,7 @@ activeAuthorised S = all 32 (λ s. each (S .active s) (λ r. mayActivate S s r))
 unfoldable pub openingsEffective : State → Bool
 openingsEffective S = all 32 (λ s. all 8 (λ x. each (S .holds s x) (λ o. effective S s x o)))
 
--- what 01 asks
+-- what 01 asks, and 02, S-5: "those bits are clear and ... the first 64 words are their closure"
 unfoldable pub rolesSound : State → Bool
 rolesSound S =
     reflexive S
@@ -47,6 +48,8 @@ rolesSound S =
     and idleEmpty S
     and activeAuthorised S
     and openingsEffective S
+    and ownClear S
+    and closed S
 
 -- 02, S-4: "Soundness includes all sets and that no pair is one of error 21"
 unfoldable pub sound : State → Bool
@@ -64,4 +67,5 @@ pub record Sound (S : State) : Type 0 where
   pub idle-no-openings : (s x : ℕ) → s < 32 → x < 8 → idle S s ≡ true → S .holds s x ≡ 0
   pub active-authorised : (s r : ℕ) → s < 32 → r < 64 → has (S .active s) r ≡ true → mayActivate S s r ≡ true
   pub openings-effective : (s x o : ℕ) → s < 32 → x < 8 → o < 64 → has (S .holds s x) o ≡ true → effective S s x o ≡ true
+  pub is-linked : Linked (S .juniors) (S .direct)
   pub is-separated : Separated S

@@ -1,18 +1,13 @@
 -- The table of 01 ("The table"): the words that show a state.
-use Rattle.bits.specs.Words.{ℕ, zero, suc, _/_, _%_, Bool, List, [], _∷_, _++_, eqb, length}
+use Rattle.bits.specs.Words.{ℕ, _/_, _%_, Bool, List, _++_, eqb, length, tabulate}
 use Rattle.table.specs.State.{State}
 
 -- the number of words of a table
 abbrev pub tableLength : ℕ
-tableLength = 1032
+tableLength = 1096
 
 unfoldable pub isTable : List ℕ → Bool
 isTable t = eqb (length t) tableLength
-
--- f 0, f 1, .. , f (n - 1)
-unfoldable pub tabulate : {A : Type 0} → ℕ → (ℕ → A) → List A
-tabulate zero f = []
-tabulate (suc n) f = f 0 ∷ tabulate n (λ i. f (suc i))
 
 -- its sections, in the order of 01 and 02
 unfoldable pub encode : State → List ℕ
@@ -24,4 +19,4 @@ encode S =
     ++ (tabulate 32 (S .owner)
     ++ (tabulate 32 (S .active)
     ++ (tabulate 256 (λ i. S .holds (i / 8) (i % 8))
-    ++ tabulate 64 (S .sets)))))))
+    ++ (tabulate 64 (S .sets) ++ tabulate 64 (S .direct))))))))

@@ -7,9 +7,10 @@ use mathlib.Core.List.{List, [], _∷_, _++_, append-assoc, List·Memᴰ, List·
 use lib.Dec.{ltb}
 use lib.ListN.{drop}
 use Rattle.bits.proofs.Below.{all-intro}
-use Rattle.table.specs.Table.{tableLength, isTable, tabulate}
+use Rattle.bits.specs.Words.{tabulate}
+use Rattle.table.specs.Table.{tableLength, isTable}
 use Rattle.table.proofs.Table.{is-table}
-use Rattle.table.proofs.Tabulate.{length-tabulate, getD-tabulate}
+use Rattle.bits.proofs.Tabulate.{length-tabulate, getD-tabulate}
 use Rattle.image.specs.SetUp.{areLabels}
 use Rattle.lines.specs.Reader.{steps}
 use Rattle.lines.specs.declared.Line.{Line}

@@ -1,6 +1,6 @@
 -- The whole output of the transcript program as a function of its whole input: the section of 01 on the program.
-use Rattle.bits.specs.Words.{ℕ, _+_, List, [], _∷_, _++_, eqb, if_then_else_}
-use Rattle.table.specs.Table.{tableLength, tabulate}
+use Rattle.bits.specs.Words.{ℕ, _+_, List, [], _∷_, _++_, eqb, if_then_else_, tabulate}
+use Rattle.table.specs.Table.{tableLength}
 use Rattle.lines.specs.Bytes.{newline, empty}
 use Rattle.lines.specs.Line.{line}
 use Rattle.lines.specs.declared.Line.{Line}

@@ -4,6 +4,7 @@ use crate::case::{Case, Step};
 use crate::guard::PLAIN;
 use crate::random::Random;
 use crate::run::Run;
+use crate::text::members;
 use crate::words::{Field, Layer};
 use reference::WORDS;
 
@@ -103,14 +104,17 @@ impl Layer {
     }
 }
 
-/// The case with the roles of most role starts and separation sets chosen by what users are authorised for, or sessions have
-/// active, at that step.
-fn with_roles(random: &mut Random, world: &World, steps: Vec<Step>) -> Case {
+/// The case with many arguments fitted to the table at their step: the roles of starts and separation sets to what users are
+/// authorised for or sessions have active, openings to what is effective, and links to what is linked and what hangs on it.
+fn fitted(random: &mut Random, world: &World, steps: Vec<Step>) -> Case {
     let mut case = Case(steps);
     let mut run = Run::default();
     for step in &mut case.0 {
         match step {
-            Step::Role([3, _, user, roles]) => choose_roles(random, world, authorised(&run.table, *user), roles),
+            Step::Role([1, session, object, mode]) if !world.worded && random.chance(60) => {
+                (*mode, *object) = choose_opening(random, &run.table, *session).unwrap_or((*mode, *object));
+            }
+            Step::Role([3, _, user, roles]) => choose_roles(random, world, &run.table, *user, roles),
             Step::Role([11, _, mask, bound]) if random.chance(75) => {
                 let roles = authorised(&run.table, random.one(&world.users));
                 (*mask, *bound) = pair_near(random, world, roles, roles);
@@ -118,6 +122,9 @@ fn with_roles(random: &mut Random, world: &World, steps: Vec<Step>) -> Case {
             Step::Role([12, _, mask, bound]) if random.chance(75) => {
                 let [owner, active] = seat(&run.table, random.one(&world.sessions) as usize);
                 (*mask, *bound) = pair_near(random, world, authorised(&run.table, owner.wrapping_sub(1)), active);
+            }
+            Step::Role([code @ (13 | 14), senior, junior, _]) => {
+                (*senior, *junior) = choose_link(random, world, &run.table, *code).unwrap_or((*senior, *junior));
             }
             _ => {}
         }
@@ -138,10 +145,48 @@ fn seat(table: &[u64], session: usize) -> [u64; 2] {
     [648, 680].map(|first| table.get(first + session).copied().unwrap_or(0))
 }
 
-/// Mostly some of the authorised roles, all of them, or one of the case's few besides.
-fn choose_roles(random: &mut Random, world: &World, authorised: u64, roles: &mut u64) {
+/// A pair of mode and object that is effective for a session; none where there is none.
+fn choose_opening(random: &mut Random, table: &[u64], session: u64) -> Option<(u64, u64)> {
+    let mut masks = [0; 8];
+    (PLAIN.effective_permissions)(table, session, &mut masks);
+    let effective = pairs(&masks);
+    (!effective.is_empty()).then(|| random.one(&effective))
+}
+
+/// Each place in the list with each member of the word there.
+fn pairs(words: &[u64]) -> Vec<(u64, u64)> {
+    (0..).zip(words).flat_map(|(at, word)| members(*word).map(move |member| (at, member))).collect()
+}
+
+/// Often a link that a separation set keeps from being made, or that a session keeps from being taken away, where there is one;
+/// to be taken away else mostly any link that is there. None where the link is left as it was.
+fn choose_link(random: &mut Random, world: &World, table: &[u64], code: u64) -> Option<(u64, u64)> {
+    if table.len() != WORDS {
+        return None;
+    }
+    let mut links = if code == 13 { open_links(world, table) } else { pairs(&table[LINKS as usize..]) };
+    let is_kept = |(r, q): &(u64, u64)| (PLAIN.role_request)(&mut table.to_vec(), code, *r, *q, 0) == 0;
+    let choice = random.below(10);
+    if choice < 4 && links.iter().any(is_kept) {
+        links.retain(is_kept);
+    } else if code == 13 || choice > 7 {
+        return None;
+    }
+    (!links.is_empty()).then(|| random.one(&links))
+}
+
+/// Pairs of the case's roles of which the second is not the first and not above it.
+fn open_links(world: &World, table: &[u64]) -> Vec<(u64, u64)> {
+    let pairs = world.roles.iter().flat_map(|senior| world.roles.iter().map(move |junior| (*senior, *junior)));
+    pairs.filter(|(senior, junior)| table[*junior as usize] >> senior & 1 == 0).collect()
+}
+
+/// Mostly some of the authorised roles, all of them, one of the case's few besides, or those that are assigned.
+fn choose_roles(random: &mut Random, world: &World, table: &[u64], user: u64, roles: &mut u64) {
+    let authorised = authorised(table, user);
     let some = authorised & random.word();
     *roles = match random.below(10) {
+        2 | 3 if !world.worded => table.get(72 + (user % 64) as usize).copied().unwrap_or(0),
         0..=3 => some,
         4 => authorised,
         5 | 6 => some | 1 << random.one(&world.roles),
@@ -190,9 +235,10 @@ fn code(random: &mut Random, weights: &[u64], last: u64) -> u64 {
     code
 }
 
-/// How often each role request is made on a table in use, and on one that is to come into use.
-const ROLE_WEIGHTS: [u64; 12] = [20, 6, 8, 3, 16, 8, 9, 8, 12, 8, 6, 6];
-const ROLE_GROWTH: [u64; 12] = [4, 0, 4, 0, 4, 0, 6, 0, 6, 0, 1, 1];
+/// How often each role request is made on a table in use, on one that is to come into use, and where links are what matters.
+const ROLE_WEIGHTS: [u64; 14] = [20, 6, 8, 3, 16, 8, 9, 8, 12, 8, 6, 6, 4, 4];
+const ROLE_GROWTH: [u64; 14] = [4, 0, 4, 0, 4, 0, 6, 0, 6, 0, 1, 1, 1, 0];
+const LINK_WEIGHTS: [u64; 14] = [24, 1, 8, 1, 2, 1, 6, 1, 12, 1, 8, 1, 18, 18];
 
 /// The same for label requests.
 const LABEL_WEIGHTS: [u64; 5] = [30, 6, 14, 4, 10];
@@ -289,7 +335,15 @@ pub fn requests(random: &mut Random, layer: Layer) -> Case {
         0 => reading(random, &world),
         _ => layer.any_request(random, &world),
     }));
-    with_roles(random, &world, steps)
+    fitted(random, &world, steps)
+}
+
+/// A role table brought into use, and a list of requests, most of them links and what they are judged by.
+pub fn links(random: &mut Random) -> Case {
+    let world = World::new(random);
+    let mut steps = Layer::Roles.beginning(random, &world);
+    steps.extend(list(random, 100, |random| Layer::Roles.weighted(random, &world, &LINK_WEIGHTS)));
+    fitted(random, &world, steps)
 }
 
 /// A table brought into use, and so many requests of its layer, without those that no transcript has a word for.
@@ -297,7 +351,7 @@ pub fn worded_requests(random: &mut Random, layer: Layer, count: usize) -> Case 
     let world = World::of_words(random);
     let mut steps = layer.beginning(random, &world);
     steps.extend((0..count).map(|_| layer.any_request(random, &world)));
-    with_roles(random, &world, steps)
+    fitted(random, &world, steps)
 }
 
 /// A request, a reading or likeness, of either layer.
@@ -313,8 +367,11 @@ fn any_call(random: &mut Random, world: &World) -> Step {
 /// Where the pairs of the separation sets begin.
 const SETS: u64 = 968;
 
+/// Where the direct juniors begin.
+const LINKS: u64 = 1032;
+
 /// Where each section of the table begins, and its end.
-const SECTIONS: [u64; 9] = [0, 64, 72, 136, 648, 680, 712, SETS, WORDS as u64];
+const SECTIONS: [u64; 10] = [0, 64, 72, 136, 648, 680, 712, SETS, LINKS, WORDS as u64];
 
 /// A place in a random section.
 fn place(random: &mut Random) -> usize {
@@ -334,7 +391,8 @@ fn damage(random: &mut Random) -> Step {
 
 /// Another length of the table, mostly near the right one.
 fn wrong_length(random: &mut Random) -> Step {
-    Step::Length(random.one(&[0, 1, 72, SETS as usize, WORDS - 1, WORDS - 1, WORDS + 1, WORDS + 1, 5000]))
+    let [sets, links] = [SETS, LINKS].map(|first| first as usize);
+    Step::Length(random.one(&[0, 1, 72, sets, links, WORDS - 1, WORDS - 1, WORDS + 1, WORDS + 1, 5000]))
 }
 
 /// A whole pair of one of the 32 sets: a few of the case's roles, and a bound of 2 or 3.
@@ -342,6 +400,30 @@ fn pair_put(random: &mut Random, world: &World) -> Vec<Step> {
     let at = (SETS + 2 * random.below(32)) as usize;
     let mask = (0..3).fold(0, |mask, _| mask | 1 << random.one(&world.roles));
     vec![Step::Put(at, mask), Step::Put(at + 1, random.one(&[2, 2, 2, 3]))]
+}
+
+/// Direct juniors that do not fit seniority: a link made or taken away by a request and turned back in its bit alone, a role
+/// that is its own direct junior, or two that are each other's. Or, on a label table mostly, a link less by a request.
+fn links_put(random: &mut Random, world: &World, layer: Layer) -> Vec<Step> {
+    let (senior, junior) = (random.one(&world.roles), random.one(&world.roles));
+    let turned = |junior: u64| Step::Flip((LINKS + senior) as usize, junior);
+    let unlink = Step::Role([14, senior, junior, 0]);
+    match random.below(if layer == Layer::Labels { 10 } else { 5 }) {
+        0 => vec![Step::Role([13, senior, junior, 0]), turned(junior)],
+        1 => vec![unlink, turned(junior)],
+        2 => vec![turned(senior)],
+        3 => circle(senior, junior, random.one(&world.roles)),
+        _ => vec![unlink],
+    }
+}
+
+/// On a table without other links, two roles that are each other's direct juniors, and the closure; with a third role in it
+/// that no link leads to, unless it is one of the two.
+fn circle(one: u64, other: u64, third: u64) -> Vec<Step> {
+    let rows = [one, other].map(|role| Step::Put(role as usize, 1 << one | 1 << other | 1 << third));
+    let links = [(one, other), (other, one)].map(|(role, junior)| Step::Put((LINKS + role) as usize, 1 << junior));
+    let fresh = Step::RoleSetup { juniors: vec![0; 64], permissions: vec![0; 8] };
+    [fresh].into_iter().chain(rows).chain(links).collect()
 }
 
 /// A table that comes into use, and rounds of requests, a copy kept, and what is done to the table then.
@@ -354,15 +436,16 @@ fn in_rounds(random: &mut Random, disturb: impl Fn(&mut Random, &World, Layer) -
         steps.push(Step::Keep);
         steps.extend(disturb(random, &world, layer));
     }
-    with_roles(random, &world, steps)
+    fitted(random, &world, steps)
 }
 
 /// A table in use that is damaged, called and restored, several times over. Role requests meet label tables too.
 pub fn damaged(random: &mut Random) -> Case {
-    in_rounds(random, |random, world, _| {
-        let damages = match random.chance(20) {
-            true => pair_put(random, world),
-            false => list(random, 3, |random| match random.below(6) {
+    in_rounds(random, |random, world, layer| {
+        let damages = match random.below(10) {
+            0 | 1 => pair_put(random, world),
+            2..=4 => links_put(random, world, layer),
+            _ => list(random, 3, |random| match random.below(6) {
                 0 => wrong_length(random),
                 1 => any_call(random, world),
                 _ => damage(random),
@@ -400,7 +483,7 @@ pub fn damage_everywhere(random: &mut Random, layer: Layer) -> Vec<Case> {
                 steps.extend([damage, any_call(random, &world), Step::Restore]);
             }
         }
-        with_roles(random, &world, steps)
+        fitted(random, &world, steps)
     };
     SECTIONS.windows(2).map(&mut section).collect()
 }

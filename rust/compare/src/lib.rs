@@ -17,14 +17,14 @@ mod transcripts;
 mod words;
 
 pub use case::{Case, Step};
-pub use generate::{damage_everywhere, damaged, likeness, requests, set_ups, worded_requests};
+pub use generate::{damage_everywhere, damaged, likeness, links, requests, set_ups, worded_requests};
 #[cfg(feature = "proved")]
 pub use guard::PROVED;
 pub use guard::{guards, Guard, GUARDS, PLAIN, REFERENCE};
 pub use random::Random;
 pub use reached::{every_call, every_transcript, Reached};
 pub use reference::WORDS;
-pub use run::{check, compare, Reply, Run, LENT};
+pub use run::{check, compare, watch, Reply, Run, LENT};
 pub use transcripts::{check_transcript, difference, random_transcript, readers, Reader};
 pub use words::Layer;
 

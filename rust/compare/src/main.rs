@@ -3,8 +3,8 @@
 //! `compare replay FILE`: a case as it was printed, or a transcript, once more.
 
 use compare::{
-    check, check_transcript, compare, damaged, difference, likeness, random_transcript, readers, requests, set_ups,
-    Case, Layer, Random, Reached, GUARDS,
+    check, check_transcript, compare, damaged, difference, likeness, links, random_transcript, readers, requests,
+    set_ups, Case, Layer, Random, Reached, GUARDS,
 };
 use std::process::ExitCode;
 use std::time::{Duration, Instant};
@@ -64,8 +64,9 @@ fn long(seconds: &str, seed: &str) -> Result<String, String> {
 type Make = fn(&mut Random) -> Case;
 
 /// The kinds of cases.
-const KINDS: [(&str, Make); 5] = [
+const KINDS: [(&str, Make); 6] = [
     ("role requests", |random| requests(random, Layer::Roles)),
+    ("links", links),
     ("label requests", |random| requests(random, Layer::Labels)),
     ("damaged tables", damaged),
     ("set-ups", set_ups),

@@ -1,7 +1,7 @@
 //! Carrying a case out on several guards at once.
 
 use crate::case::{Case, Step};
-use crate::guard::{Guard, GUARDS, REFERENCE};
+use crate::guard::{Guard, GUARDS, PLAIN, REFERENCE};
 use crate::reached::Reached;
 use crate::shrink::{shrink, simplify};
 use reference::WORDS;
@@ -75,6 +75,17 @@ impl Run {
             Step::Keep => self.kept.clone_from(&self.table),
             Step::Restore => self.table.clone_from(&self.kept),
             _ => {}
+        }
+    }
+}
+
+/// Carries the case out on the plain guard and shows each call: the table before it, the step, its answer, the table after it.
+pub fn watch(case: &Case, mut show: impl FnMut(&[u64], &Step, u64, &[u64])) {
+    let mut run = Run::default();
+    for step in &case.0 {
+        let before = run.table.clone();
+        if let Some(reply) = run.step(&PLAIN, step) {
+            show(&before, step, reply.answers[0], &run.table);
         }
     }
 }

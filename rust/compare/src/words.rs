@@ -73,9 +73,11 @@ const ROLES: [Word; 13] = [
 ];
 
 /// The role requests that no transcript has a word for.
-const WORDLESS: [Word; 2] = [
+const WORDLESS: [Word; 4] = [
     request(11, "static set", &[SetNumber, RoleSet, Bound], &[NO, YES, BAD_PAIR]),
     request(12, "dynamic set", &[SetNumber, RoleSet, Bound], &[NO, YES, BAD_PAIR]),
+    request(13, "link", &[Role, Role], &[NO, YES]),
+    request(14, "unlink", &[Role, Role], &[NO, YES]),
 ];
 
 /// The no of an assignment, by its code: no transcript shows it, since none makes a separation set.

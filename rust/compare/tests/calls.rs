@@ -1,8 +1,8 @@
 //! The calls of every guard, held to the second implementation on random cases.
 
 use compare::{
-    check, damage_everywhere, damaged, every_call, likeness, requests, set_ups, Case, Guard, Layer, Random, Reached,
-    Run, Step, GUARDS, PLAIN, REFERENCE, WORDS,
+    check, damage_everywhere, damaged, every_call, likeness, links, requests, set_ups, watch, Case, Guard, Layer,
+    Random, Reached, Step, GUARDS, REFERENCE, WORDS,
 };
 use std::collections::BTreeMap;
 
@@ -34,7 +34,7 @@ fn require(reached: &Reached, all: &[String]) {
 fn every_call_and_every_answer() {
     let roles = || some(1, 350, |random| requests(random, Layer::Roles));
     let labels = || some(2, 200, |random| requests(random, Layer::Labels));
-    let others = || [some(3, 400, damaged), some(4, 400, set_ups), some(5, 100, likeness)];
+    let others = || [some(3, 400, damaged), some(4, 400, set_ups), some(5, 100, likeness), some(8, 150, links)];
     let mut reached = Reached::default();
     std::thread::scope(|scope| {
         let (roles, labels) = (scope.spawn(roles), scope.spawn(labels));
@@ -59,29 +59,23 @@ fn kind_of_start(table: &[u64], session: u64, roles: u64, answer: u64) -> &'stat
 
 /// Counts what the role starts of a case came to, and the openings of sessions whose roles all came from their start.
 fn count_starts(case: &Case, counts: &mut BTreeMap<&'static str, u64>) {
-    let mut run = Run::default();
     let mut chosen = [false; 32];
-    for step in &case.0 {
-        let before = run.table.clone();
-        let Some(reply) = run.step(&PLAIN, step) else { continue };
-        let answer = reply.answers[0];
-        match step {
-            Step::Role([3, session, _, roles]) => {
-                *counts.entry(kind_of_start(&before, *session, *roles, answer)).or_default() += 1;
-                if *roles == u64::MAX {
-                    *counts.entry("all 64 roles").or_default() += 1;
-                }
-                if answer == 1 {
-                    chosen[*session as usize] = *roles != 0;
-                }
+    watch(case, |before, step, answer, after| match step {
+        Step::Role([3, session, _, roles]) => {
+            *counts.entry(kind_of_start(before, *session, *roles, answer)).or_default() += 1;
+            if *roles == u64::MAX {
+                *counts.entry("all 64 roles").or_default() += 1;
             }
-            Step::Role([5, session, ..]) if answer == 1 => chosen[*session as usize] = false,
-            Step::Role([1, session, ..]) if answer == 1 && chosen[*session as usize] && run.table != before => {
-                *counts.entry("opened after a start with roles").or_default() += 1;
+            if answer == 1 {
+                chosen[*session as usize] = *roles != 0;
             }
-            _ => {}
         }
-    }
+        Step::Role([5, session, ..]) if answer == 1 => chosen[*session as usize] = false,
+        Step::Role([1, session, ..]) if answer == 1 && chosen[*session as usize] && before != after => {
+            *counts.entry("opened after a start with roles").or_default() += 1;
+        }
+        _ => {}
+    });
 }
 
 /// The random cases reach every kind of role start, each often.
@@ -89,7 +83,7 @@ fn count_starts(case: &Case, counts: &mut BTreeMap<&'static str, u64>) {
 fn every_kind_of_start() {
     let mut random = Random::new(1);
     let mut counts = BTreeMap::new();
-    for _ in 0..350 {
+    for _ in 0..400 {
         count_starts(&requests(&mut random, Layer::Roles), &mut counts);
     }
     println!("{counts:?}");

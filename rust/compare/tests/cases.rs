@@ -2,6 +2,9 @@
 //! (`crates/cases`), whose expected output is the list of answers here too, the points of bench case J, starts with roles, and
 //! separation sets.
 
+mod common;
+
+use common::{after, ask, case, expect, play};
 use compare::{compare, guards, Case, Guard, Reached, Run, Step, GUARDS, LENT};
 use reference::{Label, WORDS};
 
@@ -103,45 +106,17 @@ const SETS: &str = "
     !role 11 16 42 1; !role 11 0 42 1; !role 11 0 42 0; !role 11 0 0 2; !role 11 0 42 4; !role 11 0 42 3
     assign 2 5; assign 2 3; !role 11 0 42 2; !role 11 0 0 0; assign 2 5
     !role 12 0 42 2; start 0 2 32; activate 0 3; activate 0 5; start 1 2 40
-    !role 12 15 42 2; !role 12 16 42 2; !role 13 0 0 0";
+    !role 12 15 42 2; !role 12 16 42 2; !role 15 0 0 0";
 
-/// Lines with blanks for tabs, parted by line ends or semicolons.
-fn lines(text: &str) -> impl Iterator<Item = &str> {
-    text.split(['\n', ';']).map(str::trim).filter(|line| !line.is_empty())
-}
-
-/// The case of such lines.
-fn case(text: &str) -> Case {
-    let tabbed: String = lines(text).map(|line| line.replace(' ', "\t") + "\n").collect();
-    tabbed.parse().expect("the lines are a set-up and requests of its mode")
-}
-
-/// A run that has carried out lines, each answered yes.
-fn after(guard: &Guard, text: &str) -> Run {
-    let mut run = Run::default();
-    for step in &case(text).0 {
-        assert_eq!(run.step(guard, step).map(|reply| reply.answers[0]), Some(1), "{step:?} by the {}", guard.name);
-    }
-    run
-}
-
-/// Answer and spent of each call of a case. Whatever is not answered yes leaves every word.
-fn play(case: &Case, guard: &Guard) -> Vec<[u64; 2]> {
-    let mut run = Run::default();
-    let mut rows = Vec::new();
-    for step in &case.0 {
-        let before = run.table.clone();
-        let Some(reply) = run.step(guard, step) else { continue };
-        let answer = reply.answers[0];
-        assert!(answer == 1 || run.table == before, "{step:?} changes the table of the {}", guard.name);
-        let spent = match step {
-            Step::Role(_) => u64::from(answer < 2),
-            _ => reply.answers.get(1).copied().unwrap_or(0),
-        };
-        rows.push([answer, spent]);
-    }
-    rows
-}
+/// Links made and taken away, and requests that follow them.
+const LINKS: &str = "
+    roles; above 5 3; above 3 1; permit 0 9; run
+    !role 13 5 5 0; !role 13 1 5 0; !role 13 5 1 0; !role 13 5 3 0; !role 14 5 3 0; !role 14 5 3 0; !role 14 4 4 0
+    !role 13 5 3 1; !role 13 64 3 0; !role 14 5 64 0
+    !role 11 0 130 2; assign 9 7; !role 13 7 1 0; !role 11 0 0 0; !role 13 7 1 0; !role 14 7 1 0
+    grant 1 0 9; assign 2 5; start 0 2 32; open 0 9 0
+    !role 14 5 1 0; !role 13 5 3 0; !role 14 5 1 0; !role 14 3 1 0; close 0 9 0; !role 14 3 1 0
+    activate 0 1; !role 13 3 1 0; activate 0 1; !role 14 3 1 0";
 
 /// Rows as the program writes them.
 fn numbered(first: u64, rows: Vec<[u64; 2]>) -> impl Iterator<Item = String> {
@@ -152,7 +127,7 @@ fn numbered(first: u64, rows: Vec<[u64; 2]>) -> impl Iterator<Item = String> {
 fn rows_of_the_program_cases() {
     let source = [SOURCE, DERIVED].join("\n");
     let played = [(100, case(BENCH)), (200, case(&source)), (300, case(LISTING)), (400, case(CONFUSED))];
-    let chosen = [(700, case(CHOSEN)), (800, case(SETS))];
+    let chosen = [(700, case(CHOSEN)), (800, case(SETS)), (900, case(LINKS))];
     for guard in guards() {
         let mut rows: Vec<String> = Vec::new();
         for (first, case) in &played {
@@ -188,19 +163,6 @@ fn sets_of_the_source() {
             let masks = vec![reads, writes, 0, 0, 0, 0, 0, 0];
             assert_eq!(read(Step::Permissions(session)), Some((vec![1], masks)), "session {session}, {}", guard.name);
         }
-    }
-}
-
-/// Plays lines on every guard; a call stands with its answer, as `end 31: 1`.
-fn expect(text: &str) {
-    let asked = lines(text).map(|line| line.split_once(": ").map_or(line, |(asked, _)| asked));
-    let case = case(&asked.collect::<Vec<&str>>().join("\n"));
-    let answers = lines(text).filter_map(|line| Some(line.split_once(": ")?.1.parse::<u64>().expect("a number")));
-    // the set-up is one call
-    let expected: Vec<u64> = [1].into_iter().chain(answers).collect();
-    for guard in guards() {
-        let played: Vec<u64> = play(&case, guard).iter().map(|[answer, _]| *answer).collect();
-        assert_eq!(played, expected, "{text} by the {}", guard.name);
     }
 }
 
@@ -244,12 +206,14 @@ fn case_j_label_32() {
 }
 
 #[test]
-fn case_j_code_13_and_set_16() {
+fn case_j_code_15_and_set_16() {
     expect(
         "roles; run
          !role 12 15 3 2: 1; !role 12 16 3 2: 16; !role 12 16 0 0: 16; !role 12 18446744073709551615 3 2: 16
          !role 11 15 3 2: 1; !role 11 16 3 2: 16; !role 11 16 0 0: 16; !role 11 18446744073709551615 3 2: 16
-         !role 13 15 3 2: 15; !role 13 16 3 1: 15; !role 0 0 0 0: 15",
+         !role 13 63 0 0: 1; !role 13 64 0 0: 16; !role 13 0 64 0: 16; !role 13 63 0 1: 16
+         !role 14 63 0 0: 1; !role 14 64 0 0: 16; !role 14 0 64 0: 16; !role 14 63 0 18446744073709551615: 16
+         !role 15 63 0 0: 15; !role 15 16 3 1: 15; !role 15 64 64 1: 15; !role 0 0 0 0: 15",
     );
 }
 
@@ -270,7 +234,7 @@ fn calls() -> [(Step, Vec<u64>, Vec<u64>); 7] {
 #[test]
 fn case_j_other_lengths() {
     for guard in guards() {
-        for words in [0, 968, 1031, WORDS, 1033] {
+        for words in [0, 968, 1032, 1095, WORDS, 1097] {
             let mut run = after(guard, "lattice; clear 5 31; run; start 3 5 9");
             run.step(guard, &Step::Keep);
             run.step(guard, &Step::Length(words));
@@ -286,18 +250,10 @@ fn case_j_other_lengths() {
     }
 }
 
-/// Makes a role start and holds the answer and every word to what is expected: yes writes the session's user and roles and
-/// nothing else, and all else leaves the table.
+/// Makes a role start, which with yes writes the session's user and roles.
 fn start(run: &mut Run, guard: &Guard, [session, user, roles]: [u64; 3], answer: u64) {
-    let mut expected = run.table.clone();
-    if answer == 1 {
-        expected[648 + session as usize] = user + 1;
-        expected[680 + session as usize] = roles;
-    }
-    let reply = run.step(guard, &Step::Role([3, session, user, roles]));
-    let asked = format!("start {session} {user} {roles} by the {}", guard.name);
-    assert_eq!(reply.map(|reply| reply.answers), Some(vec![answer]), "{asked}");
-    assert!(run.table == expected, "{asked}");
+    let at = session as usize;
+    ask(run, guard, [3, session, user, roles], answer, &[(648 + at, user + 1), (680 + at, roles)]);
 }
 
 /// Role 5 above 3, 3 above 1; user 2 is assigned role 3, which reads column 9 through role 1.
@@ -431,18 +387,10 @@ fn added_again_beside_sets() {
     );
 }
 
-/// Replaces a set and holds the answer and every word to what is expected: yes writes the set's mask and bound and nothing
-/// else, and all else leaves the table.
+/// Replaces a set, which with yes writes the set's mask and bound.
 fn replace(run: &mut Run, guard: &Guard, [code, set, mask, bound]: [u64; 4], answer: u64) {
-    let mut expected = run.table.clone();
-    if answer == 1 {
-        let at = if code == 11 { 968 } else { 1000 } + 2 * set as usize;
-        (expected[at], expected[at + 1]) = (mask, bound);
-    }
-    let reply = run.step(guard, &Step::Role([code, set, mask, bound]));
-    let asked = format!("code {code} {set} {mask} {bound} by the {}", guard.name);
-    assert_eq!(reply.map(|reply| reply.answers), Some(vec![answer]), "{asked}");
-    assert!(run.table == expected, "{asked}");
+    let at = if code == 11 { 968 } else { 1000 } + 2 * set as usize;
+    ask(run, guard, [code, set, mask, bound], answer, &[(at, mask), (at + 1, bound)]);
 }
 
 /// User 2 has roles 3 and 1, without a session; session 0 of user 4 has roles 5 and 3 active.
@@ -493,7 +441,7 @@ fn damaged_sets() {
         for (at, mask, bound) in pairs {
             let mut run = after(guard, SEPARATE);
             (run.table[at], run.table[at + 1]) = (mask, bound);
-            for asked in [[11, 0, 0, 0], [12, 16, 42, 1], [13, 0, 0, 0], [2, 0, 0, 0], [4, 0, 0, 0]] {
+            for asked in [[11, 0, 0, 0], [12, 16, 42, 1], [15, 0, 0, 0], [2, 0, 0, 0], [4, 0, 0, 0]] {
                 replace(&mut run, guard, asked, 13);
             }
         }

@@ -1,18 +1,20 @@
 //! What separation sets do to the requests of the random cases: everything that they can, each often.
 
-use compare::{damaged, requests, Case, Layer, Random, Run, Step, PLAIN, WORDS};
+use compare::{damaged, requests, watch, Case, Layer, Random, Run, Step, PLAIN, WORDS};
 use std::collections::BTreeMap;
 
 const _: () = assert!(!reference::WRONG, "tests are built without a wrong turn");
 
-/// Where the pairs of mask and bound begin, and those of the dynamic sets.
+/// Where the pairs of mask and bound begin, those of the dynamic sets, and what is behind them.
 const STATIC: usize = 968;
 const DYNAMIC: usize = 1000;
+const BEHIND: usize = 1032;
 
 /// The answer to a step on the table without its sets.
 fn without_sets(table: &[u64], step: &Step) -> Option<u64> {
     let mut run = Run::default();
-    run.table[..STATIC].copy_from_slice(&table[..STATIC]);
+    run.table.copy_from_slice(table);
+    run.table[STATIC..BEHIND].fill(0);
     run.step(&PLAIN, step).map(|reply| reply.answers[0])
 }
 
@@ -22,6 +24,7 @@ fn kind(table: &[u64], step: &Step, answer: u64) -> &'static str {
         (Step::Role([3, ..]), 0) => "start, no",
         (Step::Role([5, ..]), 0) => "activate, no",
         (Step::Role([7, ..]), 0) => "assign, no",
+        (Step::Role([13, ..]), 0) => "link, no",
         (Step::Label(_), 14) => "label request, 14",
         (_, 13) => fault(table),
         _ => panic!("{step:?} is answered {answer} for a set"),
@@ -31,11 +34,11 @@ fn kind(table: &[u64], step: &Step, answer: u64) -> &'static str {
 /// What is wrong with the sets of a table that is sound without them.
 fn fault(table: &[u64]) -> &'static str {
     let is_bad = |pair: &[u64]| pair != [0, 0] && !(2..=pair[0].count_ones().into()).contains(&pair[1]);
-    if table[STATIC..].chunks(2).any(is_bad) {
+    if table[STATIC..BEHIND].chunks(2).any(is_bad) {
         return "13, a pair of error 21";
     }
     let mut rest = table.to_vec();
-    rest[DYNAMIC..].fill(0);
+    rest[DYNAMIC..BEHIND].fill(0);
     if is_sound(&rest) {
         return "13, a dynamic set";
     }
@@ -54,20 +57,16 @@ fn is_sound(table: &[u64]) -> bool {
 
 /// Counts what the sets did to the requests of a case, but for those that replace a set.
 fn count(case: &Case, counts: &mut BTreeMap<&'static str, u64>) {
-    let mut run = Run::default();
-    for step in &case.0 {
-        let before = run.table.clone();
-        let Some(reply) = run.step(&PLAIN, step) else { continue };
-        let answer = reply.answers[0];
+    watch(case, |before, step, answer, _| {
         let counted = match step {
             Step::Role([code, ..]) => ![11, 12].contains(code),
             Step::Label(_) => true,
             _ => false,
         };
-        if counted && before.len() == WORDS && without_sets(&before, step) != Some(answer) {
-            *counts.entry(kind(&before, step, answer)).or_default() += 1;
+        if counted && before.len() == WORDS && without_sets(before, step) != Some(answer) {
+            *counts.entry(kind(before, step, answer)).or_default() += 1;
         }
-    }
+    });
 }
 
 #[test]
@@ -79,5 +78,5 @@ fn every_kind() {
         count(&damaged(&mut random), &mut counts);
     }
     println!("{counts:?}");
-    assert!(counts.len() == 8 && counts.values().all(|count| *count >= 20), "{counts:?}");
+    assert!(counts.len() == 9 && counts.values().all(|count| *count >= 20), "{counts:?}");
 }

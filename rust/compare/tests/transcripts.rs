@@ -91,9 +91,10 @@ fn forms_and_places() {
     }
 }
 
-/// What stands in a word's place and is none, a bar between two: letters too many or too few, and other bytes.
+/// What stands in a word's place and is none, a bar between two: letters too many or too few, other bytes, and names of
+/// requests that have no word.
 const NO_WORDS: &[u8] =
-    b"|o|ope|opens|xopen|Open|zzzzzzzz|activated|xactivate|xxdeassign|op3n|open |\0open|ope{|\x80|open\xff";
+    b"|o|ope|opens|xopen|Open|zzzzzzzz|activated|xactivate|xxdeassign|op3n|open |\0open|ope{|\x80|open\xff|link|unlink";
 
 /// Fields of every length, near 2^64, and no numbers.
 const SHAPES: &[u8] = b"|0|2|8|31|32|63|64|128|1000000000000000000|9999999999999999999|10000000000000000000|\

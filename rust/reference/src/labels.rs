@@ -1,6 +1,7 @@
 //! Labels, the Bell-LaPadula machine, and its image as an RBAC96 state.
 
 use crate::requests::{below, unlisted};
+use crate::seniority::between_others;
 use crate::state::{seconds, Mode, Object, Session, State, User, OBJECTS, SESSIONS, USERS};
 use crate::turns::turn;
 use std::collections::{BTreeMap, BTreeSet};
@@ -203,6 +204,8 @@ impl Machine {
                 }
             }
         }
+        // every junior but the role itself is a direct one
+        state.direct = between_others(&state.seniority);
         for (u, clearance) in &self.clearances {
             state.assigned.insert((*u, clearance.read_role()));
         }
@@ -219,7 +222,7 @@ impl Machine {
         state
     }
 
-    /// The machine whose image the state is.
+    /// The machine whose image the state is; the wrong turn does not look at the direct juniors.
     pub fn of_image(state: &State) -> Option<Machine> {
         let clearance = |u| Some((u, only_label(seconds(&state.assigned, u))?));
         let label = |o| {
@@ -233,7 +236,9 @@ impl Machine {
             sessions: state.users.iter().map(seat).collect::<Option<_>>()?,
             openings: state.openings.clone(),
         };
-        (machine.image() == *state).then_some(machine)
+        let image = machine.image();
+        let image = turn!("wrong-image-any-links", image, State { direct: state.direct.clone(), ..image });
+        (image == *state).then_some(machine)
     }
 }
 

@@ -9,6 +9,7 @@
 
 mod labels;
 mod requests;
+mod seniority;
 mod separation;
 mod setup;
 mod state;
@@ -34,7 +35,7 @@ pub fn number(answer: Answer) -> u64 {
     }
 }
 
-/// Writes the table of a role set-up: the closure of the direct juniors, the permissions and nothing else.
+/// Writes the table of a role set-up: the direct juniors, their closure, the permissions and nothing else.
 pub fn role_setup(table: &mut [u64], juniors: &[u64], permissions: &[u64]) -> u64 {
     number(table::is_table(table).and_then(|()| {
         let state = setup::roles_from_words(juniors, permissions)?;

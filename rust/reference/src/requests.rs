@@ -1,4 +1,4 @@
-//! The twelve role requests.
+//! The fourteen role requests.
 
 use crate::separation::Separation;
 use crate::state::{Mode, Object, Role, Session, State, User, MODES, OBJECTS, ROLES, SESSIONS, SETS, USERS};
@@ -24,6 +24,10 @@ enum Request {
     /// The number of a set, a mask of roles and a bound.
     StaticSet(u64, u64, u64),
     DynamicSet(u64, u64, u64),
+    /// The senior, and the role that becomes its direct junior.
+    Link(Role, Role),
+    /// The senior, and the direct junior that it no longer has.
+    Unlink(Role, Role),
 }
 
 /// Refusal 16: an argument is out of range.
@@ -60,6 +64,8 @@ impl Request {
             10 => Request::Revoke(below(a, ROLES)?, below(b, MODES)?, below(c, OBJECTS)?),
             11 => Request::StaticSet(below(a, SETS)?, b, c),
             12 => Request::DynamicSet(below(a, SETS)?, b, c),
+            13 => Request::Link(below(a, ROLES)?, below(b, ROLES)?),
+            14 => Request::Unlink(below(a, ROLES)?, below(b, ROLES)?),
             _ => return Err(15),
         };
         match code {
@@ -99,10 +105,12 @@ impl State {
         let next = self.after(request);
         let yes = self.allows(request, &next);
         if yes {
-            *self = next;
+            *self = turn!("wrong-unlink-keeps-rows", next, self.with_old_rows(request, next));
         }
         #[cfg(feature = "wrong-bound-left")]
         self.leave_bound(request);
+        #[cfg(feature = "wrong-link-left")]
+        self.leave_link(request);
         Ok(yes)
     }
 
@@ -118,6 +126,23 @@ impl State {
         sets.retain(|_, set| !set.is_empty());
     }
 
+    /// Leaves the direct junior of a link whatever the answer was, for the wrong turn.
+    #[cfg(feature = "wrong-link-left")]
+    fn leave_link(&mut self, request: Request) {
+        if let Request::Link(r, q) = request {
+            self.direct.insert((r, q));
+        }
+    }
+
+    /// The state after an unlink with the seniority from before it, for the wrong turn.
+    #[cfg(feature = "wrong-unlink-keeps-rows")]
+    fn with_old_rows(&self, request: Request, next: State) -> State {
+        match request {
+            Request::Unlink(..) => State { seniority: self.seniority.clone(), ..next },
+            _ => next,
+        }
+    }
+
     /// The column "yes when".
     fn allows(&self, request: Request, next: &State) -> bool {
         match request {
@@ -130,6 +155,8 @@ impl State {
             Request::Drop(..) | Request::Revoke(..) | Request::StaticSet(..) | Request::DynamicSet(..) => {
                 next.is_sound()
             }
+            Request::Link(r, q) => self.may_link(r, q, next),
+            Request::Unlink(r, q) => self.may_unlink(r, q, next),
             Request::Close(..) | Request::Grant(..) => true,
         }
     }
@@ -189,6 +216,8 @@ impl State {
             }
             Request::StaticSet(number, mask, bound) => replace(&mut next.static_sets, number, mask, bound),
             Request::DynamicSet(number, mask, bound) => replace(&mut next.dynamic_sets, number, mask, bound),
+            Request::Link(r, q) => next.link(r, q),
+            Request::Unlink(r, q) => next.unlink(r, q),
         }
         next
     }

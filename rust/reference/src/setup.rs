@@ -1,8 +1,10 @@
 //! The two set-ups.
 
 use crate::labels::{Label, Machine};
-use crate::state::{seconds, Mode, Object, Role, State, ROLES};
+use crate::seniority::{between_others, closure, is_antisymmetric};
+use crate::state::{Mode, Object, Role, State};
 use crate::table::members;
+use crate::turns::turn;
 use std::collections::{BTreeMap, BTreeSet};
 
 /// Refusal 18: a lent list has not its length.
@@ -27,28 +29,15 @@ fn relation(words: &[u64]) -> BTreeSet<(u64, u64)> {
     (0..).zip(words).flat_map(row).collect()
 }
 
-/// The state of a role set-up; refusal 20 when two different roles lead to each other.
-pub fn roles(direct: &BTreeSet<(Role, Role)>, permissions: BTreeSet<(Mode, Object)>) -> Result<State, u64> {
-    let reach = |r| reached(direct, r).into_iter().map(move |q| (r, q));
-    let seniority: BTreeSet<(Role, Role)> = (0..ROLES).flat_map(reach).collect();
-    if seniority.iter().any(|(r, q)| r != q && seniority.contains(&(*q, *r))) {
+/// The state of a role set-up; refusal 20 when two different roles lead to each other. A role's link to itself is ignored.
+pub fn roles(given: &BTreeSet<(Role, Role)>, permissions: BTreeSet<(Mode, Object)>) -> Result<State, u64> {
+    let direct = turn!("wrong-setup-own-links", between_others(given), &between_others(given) | given);
+    let seniority = closure(&direct);
+    if !is_antisymmetric(&seniority) {
         return Err(20);
     }
-    Ok(State { seniority, permissions, ..State::default() })
-}
-
-/// The roles that direct juniors lead to from a role, and the role itself.
-fn reached(direct: &BTreeSet<(Role, Role)>, from: Role) -> BTreeSet<Role> {
-    let mut seen = BTreeSet::from([from]);
-    let mut waiting = vec![from];
-    while let Some(role) = waiting.pop() {
-        for junior in seconds(direct, role) {
-            if seen.insert(junior) {
-                waiting.push(junior);
-            }
-        }
-    }
-    seen
+    let direct = turn!("wrong-setup-all-juniors", direct, between_others(&seniority));
+    Ok(State { seniority, direct, permissions, ..State::default() })
 }
 
 /// The machine of a label set-up from 64 clearances and 64 object labels.

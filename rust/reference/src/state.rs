@@ -1,5 +1,6 @@
 //! The RBAC96 state: sets, relations, and the definitions of source document 000 on them.
 
+use crate::seniority::{between_others, closure, is_antisymmetric};
 use crate::separation::Separation;
 use crate::turns::turn;
 use std::collections::{BTreeMap, BTreeSet};
@@ -23,6 +24,8 @@ pub const SETS: u64 = 16;
 pub struct State {
     /// (r, q): role r is senior to role q or is q.
     pub seniority: BTreeSet<(Role, Role)>,
+    /// (r, q): role q is a direct junior of role r, as given or linked.
+    pub direct: BTreeSet<(Role, Role)>,
     /// The pairs of mode and object that are permissions.
     pub permissions: BTreeSet<(Mode, Object)>,
     /// (u, r): user u is assigned role r.
@@ -107,7 +110,9 @@ impl State {
     pub fn is_sound(&self) -> bool {
         self.is_reflexive()
             && self.is_transitive()
-            && self.is_antisymmetric()
+            && is_antisymmetric(&self.seniority)
+            && self.own_links_are_absent()
+            && self.is_closed()
             && self.grants_are_permissions()
             && self.users.values().all(|u| *u < USERS)
             && (0..SESSIONS).all(|s| self.is_session_sound(s))
@@ -124,9 +129,17 @@ impl State {
         self.seniority.iter().all(goes_on)
     }
 
-    fn is_antisymmetric(&self) -> bool {
-        let one_way = |(r, q): &(Role, Role)| r == q || !self.seniority.contains(&(*q, *r));
-        self.seniority.iter().all(one_way)
+    /// No role is its own direct junior.
+    fn own_links_are_absent(&self) -> bool {
+        let others = between_others(&self.direct);
+        turn!("wrong-own-link-sound", self.direct == others, self.direct.is_superset(&others))
+    }
+
+    /// Seniority is the closure of the direct juniors; the wrong turns let it be more, or less.
+    fn is_closed(&self) -> bool {
+        let (rows, closure) = (&self.seniority, closure(&self.direct));
+        let fits = turn!("wrong-rows-short-of-closure", *rows == closure, rows.is_subset(&closure));
+        turn!("wrong-rows-beyond-closure", fits, fits || rows.is_superset(&closure))
     }
 
     fn grants_are_permissions(&self) -> bool {

@@ -12,9 +12,10 @@ const ACTIVE: u64 = OWNER + SESSIONS;
 const HOLDS: u64 = ACTIVE + SESSIONS;
 const STATIC: u64 = HOLDS + SESSIONS * MODES;
 const DYNAMIC: u64 = STATIC + 2 * SETS;
+const DIRECT: u64 = DYNAMIC + 2 * SETS;
 
 /// The number of words of a table.
-pub const WORDS: usize = (DYNAMIC + 2 * SETS) as usize;
+pub const WORDS: usize = (DIRECT + ROLES) as usize;
 
 /// Refusal 12: the table has not its number of words.
 pub fn is_table(words: &[u64]) -> Result<(), u64> {
@@ -56,16 +57,15 @@ pub fn add(words: &mut [u64], at: u64, member: u64) {
 }
 
 fn read(words: &[u64]) -> State {
-    let (parts, sets) = words.split_at(STATIC as usize);
-    let (static_words, dynamic_words) = sets.split_at((DYNAMIC - STATIC) as usize);
-    let (static_sets, dynamic_sets) = (read_sets(static_words), read_sets(dynamic_words));
+    let sets = |first: u64, end: u64| read_sets(&words[first as usize..end as usize]);
+    let (static_sets, dynamic_sets) = (sets(STATIC, DYNAMIC), sets(DYNAMIC, DIRECT));
     let mut state = State { static_sets, dynamic_sets, ..State::default() };
-    for (at, word) in (0..).zip(parts) {
+    for (at, word) in (0..).zip(words) {
         match at {
             OWNER..ACTIVE if *word > 0 => {
                 state.users.insert(at - OWNER, word - 1);
             }
-            OWNER..ACTIVE => {}
+            OWNER..ACTIVE | STATIC..DIRECT => {}
             _ => members(*word).into_iter().for_each(|member| put(&mut state, at, member)),
         }
     }
@@ -86,7 +86,8 @@ fn put(state: &mut State, at: u64, member: u64) {
         ASSIGNED..GRANTED => state.assigned.insert((at - ASSIGNED, member)),
         GRANTED..OWNER => state.granted.insert(((at - GRANTED) / OBJECTS, (at - GRANTED) % OBJECTS, member)),
         ACTIVE..HOLDS => state.active.insert((at - ACTIVE, member)),
-        _ => state.openings.insert(((at - HOLDS) / MODES, (at - HOLDS) % MODES, member)),
+        HOLDS..STATIC => state.openings.insert(((at - HOLDS) / MODES, (at - HOLDS) % MODES, member)),
+        _ => state.direct.insert((at - DIRECT, member)),
     };
 }
 
@@ -102,6 +103,7 @@ pub fn write(state: &State, words: &mut [u64]) {
     state.openings.iter().for_each(|(s, x, o)| add(words, HOLDS + MODES * s + x, *o));
     state.static_sets.iter().for_each(|(k, set)| write_set(words, STATIC + 2 * k, set));
     state.dynamic_sets.iter().for_each(|(k, set)| write_set(words, DYNAMIC + 2 * k, set));
+    state.direct.iter().for_each(|(r, q)| add(words, DIRECT + r, *q));
 }
 
 /// Writes the mask and the bound of a set.

@@ -1,5 +1,6 @@
-//! A role table: a session starts with a role, opens one column of a sheet through a junior of it and is refused another; and
-//! who edits may not release. Prints each answer, and stops where it is not the one that is expected.
+//! A role table: a session starts with a role, opens one column of a sheet through a junior of it and is refused another; who
+//! edits may not release; and a new shift lead comes above two roles. Prints each answer, and stops where it is not the one
+//! that is expected.
 //!
 //! `cargo run --offline -p sheetguard --example column`
 
@@ -29,6 +30,16 @@ fn main() -> Result<(), Refusal> {
         (RoleRequest::Assign { user: 3, role: 6 }, Ok(Answer::Yes)),
         (RoleRequest::Assign { user: 3, role: 7 }, Ok(Answer::No)),
         (RoleRequest::Assign { user: 4, role: 7 }, Ok(Answer::Yes)),
+        // role 8 leads the shift: above 3 and so above 1, and above 6, but not above 7 too
+        (RoleRequest::Assign { user: 5, role: 8 }, Ok(Answer::Yes)),
+        (RoleRequest::Link { senior: 8, junior: 3 }, Ok(Answer::Yes)),
+        (RoleRequest::Link { senior: 8, junior: 6 }, Ok(Answer::Yes)),
+        (RoleRequest::Link { senior: 8, junior: 7 }, Ok(Answer::No)),
+        (RoleRequest::Link { senior: 1, junior: 8 }, Ok(Answer::No)),
+        (RoleRequest::Start { session: 1, user: 5, roles: 1 << 8 }, Ok(Answer::Yes)),
+        (RoleRequest::Open { session: 1, object: 9, mode: 0 }, Ok(Answer::Yes)),
+        (RoleRequest::Unlink { senior: 8, junior: 3 }, Ok(Answer::No)),
+        (RoleRequest::Unlink { senior: 8, junior: 6 }, Ok(Answer::Yes)),
     ];
     for (request, expected) in requests {
         let answer = role_request(&mut table, request);

@@ -52,6 +52,38 @@
 //! # }
 //! ```
 //!
+//! # Seniority
+//!
+//! A role is senior to its direct juniors, to theirs, and so on. The set-up gives the direct juniors; while the table is in use
+//! [`RoleRequest::Link`] puts a role above another, and [`RoleRequest::Unlink`] takes such a link away. A link is answered no
+//! where it would put two roles above each other or break a static set, and an unlink where an active role would no longer be
+//! authorised or an opening no longer be effective. A new shift lead comes above two roles:
+//!
+//! ```
+//! use sheetguard::{authorised_roles, role_request, set_up_roles, Answer, Refusal, RoleRequest, WORDS};
+//!
+//! # fn main() -> Result<(), Refusal> {
+//! let (lead, weighs, tastes) = (7, 1, 3);
+//! let mut table = [0; WORDS];
+//! set_up_roles(&mut table, &[0; 64], &[0; 8])?;
+//! assert_eq!(role_request(&mut table, RoleRequest::Assign { user: 2, role: lead })?, Answer::Yes);
+//! for junior in [weighs, tastes] {
+//!     assert_eq!(role_request(&mut table, RoleRequest::Link { senior: lead, junior })?, Answer::Yes);
+//! }
+//! assert_eq!(authorised_roles(&table, 2)?, 1 << lead | 1 << weighs | 1 << tastes);
+//! assert_eq!(role_request(&mut table, RoleRequest::Link { senior: weighs, junior: lead })?, Answer::No);
+//!
+//! // while the lead weighs, the link is not taken away
+//! let start = RoleRequest::Start { session: 0, user: 2, roles: 1 << weighs };
+//! assert_eq!(role_request(&mut table, start)?, Answer::Yes);
+//! let unlink = RoleRequest::Unlink { senior: lead, junior: weighs };
+//! assert_eq!(role_request(&mut table, unlink)?, Answer::No);
+//! assert_eq!(role_request(&mut table, RoleRequest::End { session: 0 })?, Answer::Yes);
+//! assert_eq!(role_request(&mut table, unlink)?, Answer::Yes);
+//! # Ok(())
+//! # }
+//! ```
+//!
 //! # Labels
 //!
 //! A label is `class * 8 + brand set`: a class 0 to 3, and a set of three brands, worth 1, 2 and 4. Label a *dominates* b
@@ -100,7 +132,7 @@ pub use request::{LabelRequest, RoleRequest};
 use std::fmt::{self, Display, Formatter};
 
 /// The number of words of a table.
-pub const WORDS: usize = 1032;
+pub const WORDS: usize = 1096;
 
 /// The answer to a request that is not refused.
 #[derive(Clone, Copy, Debug, PartialEq, Eq)]
@@ -126,7 +158,7 @@ pub struct Reply {
 #[derive(Clone, Copy, Debug, PartialEq, Eq)]
 #[non_exhaustive]
 pub enum Refusal {
-    /// 12: the table has not 1,032 words.
+    /// 12: the table has not 1,096 words.
     WrongLength,
     /// 13: the table is not sound.
     Unsound,
@@ -189,7 +221,7 @@ impl Refusal {
     /// The number and the reason.
     fn row(self) -> (u64, &'static str) {
         match self {
-            Refusal::WrongLength => (12, "the table has not 1,032 words"),
+            Refusal::WrongLength => (12, "the table has not 1,096 words"),
             Refusal::Unsound => (13, "the table is not sound"),
             Refusal::NoImage => (14, "the table is the image of no machine state"),
             Refusal::BadCode => (15, "there is no request of this code"),
@@ -237,10 +269,10 @@ fn accepted(number: u64) -> Result<(), Refusal> {
     Ok(())
 }
 
-/// Writes a fresh role table: the closure of the direct juniors, the permissions, and nothing else.
+/// Writes a fresh role table: the direct juniors, their closure, the permissions, and nothing else.
 ///
-/// Word r of the 64 in `juniors` has the direct juniors of role r; word x of the 8 in `permissions` has the objects o
-/// for which (x, o) is a permission. Old contents of the table do not matter.
+/// Word r of the 64 in `juniors` has the direct juniors of role r (its own bit is ignored); word x of the 8 in `permissions`
+/// has the objects o for which (x, o) is a permission. Old contents of the table do not matter.
 ///
 /// # Errors
 /// [`Refusal::WrongLength`], [`Refusal::BadListLength`], [`Refusal::Cycle`].
@@ -340,8 +372,8 @@ pub fn label_request(table: &mut [u64], request: LabelRequest) -> Result<Reply, 
     Ok(Reply { answer, spent })
 }
 
-/// Whether two tables have the same openings and the same effective permissions of each session. Separation sets are not
-/// looked at.
+/// Whether two tables have the same openings and the same effective permissions of each session. Separation sets and direct
+/// juniors are not looked at.
 ///
 /// # Errors
 /// [`Refusal::WrongLength`] and [`Refusal::Unsound`], for the first table and then for the second.

@@ -31,6 +31,12 @@ pub enum RoleRequest {
     /// Yes when every session has fewer of the roles active than the bound; these then are the dynamic set, 0 to 15. No roles
     /// with bound 0 empty it.
     DynamicSet { set: u64, roles: u64, bound: u64 },
+    /// Yes when the roles differ, the second is not senior to the first and no static set breaks; the second is then a direct
+    /// junior of the first. Yes too where it is a junior already, direct or not. [Seniority](crate#seniority) has more.
+    Link { senior: u64, junior: u64 },
+    /// Yes when the second is a direct junior of the first and the table without this link is sound; it then is none, and may
+    /// be a junior through another role still.
+    Unlink { senior: u64, junior: u64 },
 }
 
 impl RoleRequest {
@@ -49,6 +55,8 @@ impl RoleRequest {
             RoleRequest::Revoke { role, mode, object } => [10, role, mode, object],
             RoleRequest::StaticSet { set, roles, bound } => [11, set, roles, bound],
             RoleRequest::DynamicSet { set, roles, bound } => [12, set, roles, bound],
+            RoleRequest::Link { senior, junior } => [13, senior, junior, 0],
+            RoleRequest::Unlink { senior, junior } => [14, senior, junior, 0],
         }
     }
 }

@@ -4,7 +4,7 @@ use Prim.Native.Nat.{_-_}
 use mathlib.Core.Path.{refl}
 use lib.ListN.{getD}
 use Rattle.bits.proofs.Below.{widen}
-use Rattle.table.proofs.Tabulate.{Filling, fill-start, fill-step, fill-end}
+use Rattle.bits.proofs.Tabulate.{Filling, fill-start, fill-step, fill-end}
 use Rattle.image.specs.Image.{clearedRoles}
 use Rattle.image.proofs.assigned_words.Statement.{statement}
 use Rattle.image.proofs.assigned_words.Tie as tie

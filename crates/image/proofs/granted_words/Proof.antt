@@ -6,7 +6,7 @@ use native.Mathlib.Omega.{arith}
 use lib.ListN.{getD}
 use Rattle.bits.specs.Words.{_with_}
 use Rattle.bits.proofs.Below.{widen}
-use Rattle.table.proofs.Tabulate.{Filling, fill-start, fill-step, fill-end}
+use Rattle.bits.proofs.Tabulate.{Filling, fill-start, fill-step, fill-end}
 use Rattle.image.proofs.granted_words.Statement.{statement}
 use Rattle.image.proofs.granted_words.Tie as tie
 

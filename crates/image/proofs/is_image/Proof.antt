@@ -14,7 +14,7 @@ returns c = sym (false-and _ (not-table _ (c .if1 .taken)))
 
 returns-2 : tie.Need-returns-2
 unfolding showsImage isImage
-returns-2 c = sym (true-and _ (is-table _ (c .before .before .if1 .left)) ∙ false-and _ (refuted (c .before .seniority-fits .ensures) (c .if2 .taken)))
+returns-2 c = sym (true-and _ (is-table _ (c .before .before .if1 .left)) ∙ false-and _ (refuted (c .before .links-fit .ensures) (c .if2 .taken)))
 
 returns-3 : tie.Need-returns-3
 unfolding showsImage isImage
@@ -22,7 +22,7 @@ returns-3 c =
     let a = c .before .before in
     sym
     (true-and _ (is-table _ (a .before .before .if1 .left))
-    ∙ true-and _ (confirmed (a .before .seniority-fits .ensures) (a .if2 .left))
+    ∙ true-and _ (confirmed (a .before .links-fit .ensures) (a .if2 .left))
     ∙ false-and _ (refuted (c .before .permissions-fit .ensures) (c .if3 .taken)))
 
 returns-4 : tie.Need-returns-4
@@ -32,7 +32,7 @@ returns-4 c =
     let a = b .before .before in
     sym
     (true-and _ (is-table _ (a .before .before .if1 .left))
-    ∙ true-and _ (confirmed (a .before .seniority-fits .ensures) (a .if2 .left))
+    ∙ true-and _ (confirmed (a .before .links-fit .ensures) (a .if2 .left))
     ∙ true-and _ (confirmed (b .before .permissions-fit .ensures) (b .if3 .left))
     ∙ false-and _ (refuted (c .before .users-fit .ensures) (c .if4 .taken)))
 
@@ -44,7 +44,7 @@ returns-5 c =
     let a = b .before .before in
     sym
     (true-and _ (is-table _ (a .before .before .if1 .left))
-    ∙ true-and _ (confirmed (a .before .seniority-fits .ensures) (a .if2 .left))
+    ∙ true-and _ (confirmed (a .before .links-fit .ensures) (a .if2 .left))
     ∙ true-and _ (confirmed (b .before .permissions-fit .ensures) (b .if3 .left))
     ∙ true-and _ (confirmed (d .before .users-fit .ensures) (d .if4 .left))
     ∙ false-and _ (refuted (c .before .objects-fit .ensures) (c .if5 .taken)))
@@ -58,7 +58,7 @@ returns-6 c =
     let a = b .before .before in
     sym
     (true-and _ (is-table _ (a .before .before .if1 .left))
-    ∙ true-and _ (confirmed (a .before .seniority-fits .ensures) (a .if2 .left))
+    ∙ true-and _ (confirmed (a .before .links-fit .ensures) (a .if2 .left))
     ∙ true-and _ (confirmed (b .before .permissions-fit .ensures) (b .if3 .left))
     ∙ true-and _ (confirmed (d .before .users-fit .ensures) (d .if4 .left))
     ∙ true-and _ (confirmed (e .before .objects-fit .ensures) (e .if5 .left))
@@ -77,7 +77,7 @@ returns-7 c =
     ∙ sets-empty-are _ whole
     ∙ sym
     (true-and _ (is-table _ whole)
-    ∙ true-and _ (confirmed (a .before .seniority-fits .ensures) (a .if2 .left))
+    ∙ true-and _ (confirmed (a .before .links-fit .ensures) (a .if2 .left))
     ∙ true-and _ (confirmed (b .before .permissions-fit .ensures) (b .if3 .left))
     ∙ true-and _ (confirmed (d .before .users-fit .ensures) (d .if4 .left))
     ∙ true-and _ (confirmed (e .before .objects-fit .ensures) (e .if5 .left))

@@ -3,7 +3,7 @@ use borrow.Author.Needs.{needs}
 use Prim.Native.Nat.{_-_}
 use mathlib.Core.Path.{refl}
 use Rattle.bits.specs.Words.{pack}
-use Rattle.table.proofs.Tabulate.{Filling, fill-start, fill-step, fill-end}
+use Rattle.bits.proofs.Tabulate.{Filling, fill-start, fill-step, fill-end}
 use Rattle.image.specs.Image.{above}
 use Rattle.image.proofs.seniority_words.Statement.{statement}
 use Rattle.image.proofs.seniority_words.Tie as tie

@@ -10,7 +10,7 @@ use Rattle.roles.specs.Roles.{separates, inRange, decode}
 use Rattle.roles.specs.Served.{Fit}
 use Rattle.roles.specs.Guard.{allowedSound}
 use Rattle.roles.proofs.Codes.{is-code, pair-carried, decode-set, fit-as, served-as}
-use Rattle.roles.proofs.Guarding.{sound-step-table, checked-argument, checked-pair, comes-to, refused, served-yes, served-no, both, ReadySet, ready-set}
+use Rattle.roles.proofs.Guarding.{sound-step-table, checked-argument, checked-pair, comes-to, refused, served-yes, served-no, both, ReadyPast, ready-past}
 use Rattle.roles.proofs.Requests.{within-row}
 use Rattle.roles.proofs.serve_set.Statement.{statement}
 use Rattle.roles.proofs.serve_set.Tie as tie
@@ -21,30 +21,34 @@ unfolding inRange
 told c = let a = c .before .before .args in within-row (a .code) (a .n) (a .roles) (a .bound) (c .within .ensures) (c .before .before .pre .3)
 
 -- what holds past the refusal of a pair
-passed : (c : tie.Else2) → (let a = c .before .before .before .before .before .args in ReadySet (a .t .now) (a .code) (a .n) (a .roles) (a .bound))
+passed : (c : tie.Else2) → (let a = c .before .before .before .before .before .args in ReadyPast (a .t .now) (a .code) (a .n) (a .roles) (a .bound))
 passed c =
     let start = c .before .before .before .before .before in
     let a = start .args in
     let p = start .pre in
-    ready-set (a .t .now) (a .code) (a .n) (a .roles) (a .bound) (p .0) (p .1) (p .2)
-    (confirmed (told (c .before .before .before)) (c .before .before .if1 .left)) (sym (c .before .is-bad-pair .ensures) ∙ c .if2 .left)
+    let h = p .2 in
+    ready-past (a .t .now) (a .code) (a .n) (a .roles) (a .bound) (p .0) (p .1) (omega arith)
+    (confirmed (told (c .before .before .before)) (c .before .before .if1 .left))
+    (pair-carried (ask (a .code) (a .n) (a .roles) (a .bound)) (p .1) (p .2) ∙ sym (c .before .is-bad-pair .ensures) ∙ c .if2 .left)
 
 returns : tie.Need-returns
 returns c =
     let p = c .before .before .before .pre in
     let l = p .1 in
+    let h = p .2 in
     both (comes-to
-    (sound-step-table _ _ (is-table _ (p .0)) ∙ checked-argument allowedSound _ _ (is-code _ (omega arith) (p .2)) (refuted (told (c .before)) (c .if1 .taken)))
+    (sound-step-table _ _ (is-table _ (p .0)) ∙ checked-argument allowedSound _ _ (is-code _ (omega arith) (omega arith)) (refuted (told (c .before)) (c .if1 .taken)))
     refused)
 
 returns-2 : tie.Need-returns-2
 returns-2 c =
     let p = c .before .before .before .before .before .pre in
     let l = p .1 in
+    let h = p .2 in
     both (comes-to
     (sound-step-table _ _ (is-table _ (p .0))
-    ∙ checked-pair allowedSound _ _ (is-code _ (omega arith) (p .2)) (confirmed (told (c .before .before .before)) (c .before .before .if1 .left))
-    (pair-carried _ l (p .2) ∙ sym (c .before .is-bad-pair .ensures) ∙ c .if2 .taken))
+    ∙ checked-pair allowedSound _ _ (is-code _ (omega arith) (omega arith)) (confirmed (told (c .before .before .before)) (c .before .before .if1 .left))
+    (pair-carried _ l h ∙ sym (c .before .is-bad-pair .ensures) ∙ c .if2 .taken))
     refused)
 
 -- the request is for the pair that `separate` is called with

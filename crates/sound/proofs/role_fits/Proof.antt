@@ -1,67 +1,53 @@
--- `role_fits` meets its contract: the juniors passed fit, and those of `left` are to come. Assumes nothing.
+-- `role_fits` meets its contract. Assumes nothing.
 use borrow.Author.Needs.{needs}
-use mathlib.Core.Path.{sym, _∙_}
-use Rattle.bits.specs.Sets.{_without_}
-use Rattle.bits.proofs.Truth.{confirmed, refuted, true-and, false-and, and-false}
-use Rattle.bits.proofs.Word.{without-lt}
-use Rattle.bits.proofs.Walk.{Testing, test-start, test-step, test-fails, test-end}
+use Prim.Native.Nat.{ℕ}
+use mathlib.Core.Path.{_≡_, sym, ap, _∙_}
+use mathlib.Core.Bool.{not}
+use lib.Dec.{eqb}
+use Rattle.bits.specs.Words.{has, pack, _with_}
+use Rattle.bits.proofs.Truth.{true-and, false-and, not-intro}
+use Rattle.bits.proofs.Word.{has-pack}
+use Rattle.table.specs.Authority.{covers}
 use Rattle.table.specs.Reading.{state}
-use Rattle.sound.specs.Tests.{juniorFits, roleFits}
+use Rattle.table.proofs.Table.{is-table}
+use Rattle.table.proofs.Answers.{covered-roles-are}
+use Rattle.sound.specs.Tests.{roleFits}
 use Rattle.sound.proofs.role_fits.Statement.{statement}
 use Rattle.sound.proofs.role_fits.Tie as tie
 
-abbrev Inv-loop : tie.InvT-loop
-Inv-loop t r below left₀ left = Testing (state t .juniors r without r) (λ q. juniorFits (state t) r q) left
+-- the word that is asked about
+below-is : (c : tie.After-covered-roles) → (let a = c .before .before .before .args in
+    c .covered-roles .result ≡ pack 64 (covers (state (a .t .now)) (state (a .t .now) .direct (a .r))))
+below-is c = c .covered-roles .ensures ∙ sym (covered-roles-are _ _ (is-table _ (c .before .before .before .pre .0)))
 
-abbrev μ-loop : tie.MeasureT-loop
-μ-loop t r below left₀ left = left
+-- whether r is in it
+back-is : (c : tie.After-has) → (let a = c .before .before .before .before .args in
+    c .has .result ≡ covers (state (a .t .now)) (state (a .t .now) .direct (a .r)) (a .r))
+back-is c = c .has .ensures ∙ ap (λ (w : ℕ). has w (c .before .before .before .before .args .r)) (below-is (c .before)) ∙ has-pack _ 64 _ (c .before .before .before .before .pre .1)
 
-returns : tie.Need-returns Inv-loop μ-loop
+returns : tie.Need-returns
 unfolding roleFits
-returns c = sym (false-and _ (refuted (c .before .has .ensures) (c .if1 .taken)))
+returns c = sym (false-and _ (ap not (sym (back-is (c .before)) ∙ c .if1 .taken)))
 
-loop-holds : tie.Need-loop-holds Inv-loop μ-loop
-loop-holds c = rw (c .without .ensures) (test-start (without-lt _ _))
-
-returns-2 : tie.Need-returns-2 Inv-loop μ-loop
+returns-2 : tie.Need-returns-2
 unfolding roleFits
 returns-2 c =
-    let told = c .before in
-    let found = told .before .before in
-    let turn = found .before in
-    sym (and-false _ (test-fails (turn .before .loop .inv) (turn .loop-test .taken) (found .lowest .ensures)
-    (refuted (told .junior-fits .ensures) (c .if2 .taken))))
-
-loop-again : tie.Need-loop-again Inv-loop μ-loop
-loop-again c =
-    let told = c .before in
-    let left = told .before in
-    let turn = left .before .before in
-    test-step (turn .before .loop .inv) (turn .loop-test .taken) (left .before .lowest .ensures) (left .rest .ensures)
-    (confirmed (told .junior-fits .ensures) (c .if2 .left))
-
-returns-3 : tie.Need-returns-3 Inv-loop μ-loop
-unfolding roleFits
-returns-3 c =
-    let own = c .before .before .before in
-    sym (true-and _ (confirmed (own .before .has .ensures) (own .if1 .left)) ∙ test-end (c .before .loop .inv) (c .loop-test .left))
+    let kept = c .before .before in
+    let a = kept .before .before .before .before .before .args in
+    ap (λ (w : ℕ). eqb (state (a .t .now) .juniors (a .r)) w) (c .with .ensures ∙ ap (λ (w : ℕ). w with a .r) (below-is (kept .before .before)))
+    ∙ sym (true-and _ (not-intro (sym (back-is (kept .before)) ∙ kept .if1 .left)))
 
 pub role-fits-spec : {M : Type 1} → statement M
 role-fits-spec =
     tie.close
     (tie.spec
-    Inv-loop
-    μ-loop
     (λ c. search needs)
     (λ c. search needs)
+    (λ c. search needs)
+    (λ c κs. search needs)
     (λ c κs. search needs)
     returns
-    (λ c κs. search needs)
-    loop-holds
-    (λ c κs. search needs)
-    (λ c κs. search needs)
-    (λ c κs. search needs)
-    returns-2
     (λ c. search needs)
-    loop-again
-    returns-3)
+    (λ c. search needs)
+    (λ c κs. search needs)
+    returns-2)

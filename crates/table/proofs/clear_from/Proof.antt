@@ -6,7 +6,7 @@ use lib.ListN.{length, length-set}
 use borrow.Author.Tests.{le-leb, lt-leb}
 use Rattle.bits.proofs.Truth.{if-true, if-false}
 use Rattle.table.specs.Answers.{clearedFrom}
-use Rattle.table.proofs.Tabulate.{Writing, write-start, write-step, write-end}
+use Rattle.bits.proofs.Tabulate.{Writing, write-start, write-step, write-end}
 use mathlib.Core.Path.{refl}
 use Rattle.table.proofs.clear_from.Statement.{statement}
 use Rattle.table.proofs.clear_from.Tie as tie

@@ -7,7 +7,7 @@ use native.Mathlib.Omega.{arith}
 use Rattle.bits.specs.Words.{pack}
 use Rattle.table.specs.Reading.{state}
 use Rattle.table.specs.Authority.{effective}
-use Rattle.table.proofs.Tabulate.{Filling, fill-start, fill-step, fill-end}
+use Rattle.bits.proofs.Tabulate.{Filling, fill-start, fill-step, fill-end}
 use Rattle.table.proofs.Table.{in-table, short-table, past-table}
 use Rattle.table.proofs.Answers.{effective-permissions-none, effective-permissions-are, granted-effective}
 use Rattle.table.proofs.effective_permissions.Statement.{statement}

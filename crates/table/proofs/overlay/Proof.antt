@@ -7,7 +7,7 @@ use lib.ListN.{length, getD, length-set}
 use borrow.Author.Tests.{le-leb, lt-leb, lt-ltb, le-ltb, ltb-true, ltb-false}
 use Rattle.bits.proofs.Truth.{if-true, if-false, and-intro, false-and, and-false}
 use Rattle.table.specs.Answers.{overlay}
-use Rattle.table.proofs.Tabulate.{Writing, write-start, write-step, write-end}
+use Rattle.bits.proofs.Tabulate.{Writing, write-start, write-step, write-end}
 use Rattle.table.proofs.overlay.Statement.{statement}
 use Rattle.table.proofs.overlay.Tie as tie
 

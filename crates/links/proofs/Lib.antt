@@ -1,0 +1,2 @@
+-- The crate's laws, in reading order.
+pub mod Links

@@ -1,0 +1,2 @@
+-- The crate's definitions, in reading order.
+pub mod Links
