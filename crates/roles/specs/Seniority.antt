@@ -47,14 +47,14 @@ abbrev pub LinkTakesNothing : Type 0
 LinkTakesNothing = (t : List ℕ) (r q c : ℕ) → roleStep t (ask 13 r q c) .answer ≡ 1 → Grown (state t) (state (roleStep t (ask 13 r q c) .state))
 
 -- Does a yes to code 14 leave an opening that is not effective? None: what is held stays held, and is effective.
-pub record Kept (S S′ : State) (s x o : ℕ) : Type 0 where
-  pub still-held : has (S′ .holds s x) o ≡ true
-  pub still-effective : effective S′ s x o ≡ true
+pub record Kept (S : State) (s x o : ℕ) : Type 0 where
+  pub still-held : has (S .holds s x) o ≡ true
+  pub still-effective : effective S s x o ≡ true
 
 abbrev pub UnlinkKeepsOpenings : Type 0
 UnlinkKeepsOpenings =
     (t : List ℕ) (r q c s x o : ℕ) → roleStep t (ask 14 r q c) .answer ≡ 1 → s < 32 → x < 8 → o < 64
-    → has (state t .holds s x) o ≡ true → Kept (state t) (state (roleStep t (ask 14 r q c) .state)) s x o
+    → has (state t .holds s x) o ≡ true → Kept (state (roleStep t (ask 14 r q c) .state)) s x o
 
 -- ---- after any list of requests
 
@@ -76,7 +76,7 @@ abbrev pub recordedLinks : List ℕ → List Ask → List ℕ
 recordedLinks t qs = links (λ r. pack 64 (recorded (λ r p. has (state t .direct r) p) t qs r))
 
 -- Which roles is a role senior to, after any list of requests from a sound table? Exactly those that a chain of the links
--- recorded reaches, besides itself.
+-- recorded reaches; a chain of none reaches the role itself.
 abbrev pub SeniorityReached : Type 0
 SeniorityReached =
     (t : List ℕ) (qs : List Ask) (r q : ℕ) → isSound t ≡ true → r < 64 → q < 64

@@ -17,7 +17,8 @@ AuthorisedMeans = (S : State) (u q : ℕ) → authorised S u q ≡ true ↔ Auth
 abbrev pub EffectiveMeans : Type 0
 EffectiveMeans = (S : State) (s x o : ℕ) → effective S s x o ≡ true ↔ Effective S s x o
 
--- Which roles is a role of a sound state senior to, besides itself? Exactly those that a chain of its links reaches (02, S-5).
+-- Which roles is a role of a sound state senior to? Exactly those that a chain of the state's links reaches (02, S-5); a chain of
+-- none reaches the role itself.
 abbrev pub SeniorityMeans : Type 0
 SeniorityMeans = (S : State) (r q : ℕ) → sound S ≡ true → r < 64 → q < 64 → senior S r q ≡ true ↔ Reaches (links (S .direct)) r q
 
