@@ -5,7 +5,9 @@
  *
  * The guard keeps nothing. The caller lends it a table of SHEETGUARD_WORDS words at each call and stores the table as it
  * likes; sheetguard_compare_labels alone takes none. A programmer who has to store, restore or migrate one finds in
- * docs/TABLE.md the layout of the words, what sound means, which fault gets which refusal, and byte order. Every function
+ * docs/TABLE.md the layout of the words, what sound means, which fault gets which refusal, and byte order. For readers of a
+ * backup the table keeps what each session may open: word 1096 + 8 * session + mode is the set of objects that are effective
+ * for the session in this mode. Every YES leaves these words true, and a table where one is not is not sound. Every function
  * returns, whatever the words and numbers are, and answers with a number:
  *
  *     SHEETGUARD_YES, SHEETGUARD_NO, or a refusal, 12 to 21, the first that fits in the order of the numbers (of two
@@ -38,13 +40,13 @@ extern "C" {
 #endif
 
 /* The number of words of a table. */
-#define SHEETGUARD_WORDS 1096
+#define SHEETGUARD_WORDS 1352
 
 /* The answers, but for the four of sheetguard_compare_labels. */
 enum {
     SHEETGUARD_NO = 0,
     SHEETGUARD_YES = 1,
-    SHEETGUARD_WRONG_LENGTH = 12,    /* the table has not 1,096 words */
+    SHEETGUARD_WRONG_LENGTH = 12,    /* the table has not 1,352 words */
     SHEETGUARD_UNSOUND = 13,         /* the table is not sound */
     SHEETGUARD_NO_IMAGE = 14,        /* a label request on a sound table that no label set-up leads to */
     SHEETGUARD_BAD_CODE = 15,        /* the code is not one of the requests */
@@ -176,7 +178,8 @@ uint64_t sheetguard_compare_labels(uint64_t first, uint64_t second);
 
 /*
  * Table: only read. masks: written at YES.
- * Writes the effective permissions of a session into eight lent words, word x the objects of mode x. n_masks is 8.
+ * Writes the effective permissions of a session into eight lent words, word x the objects of mode x, as the table keeps
+ * them in its words from 1096 + 8 * session on. n_masks is 8.
  * Answers YES, or refusal 12, 13, or 16 where there is no such session or n_masks is not 8.
  */
 uint64_t sheetguard_effective_permissions(const uint64_t *table, size_t words,

@@ -117,6 +117,7 @@ pub fn rows() -> Vec<Call> {
         role("role drop", 6, 1),
         role("role assign", 7, 1),
         role("role deassign", 8, 1),
+        role("role grant", 9, 1),
         role("role revoke", 10, 1),
         role("role link", 13, 1),
         role("role unlink, yes", 14, 1),

@@ -4,8 +4,9 @@ use compare::{Guard, PLAIN, WORDS};
 
 const GUARD: Guard = PLAIN;
 
-/// Where the pairs of the separation sets begin.
+/// Where the pairs of the separation sets begin, and the masks.
 const SETS: usize = 968;
+const MASKS: usize = 1096;
 
 /// A request that must be answered yes.
 fn role(table: &mut [u64], code: u64, a: u64, b: u64, c: u64) {
@@ -41,6 +42,7 @@ pub fn full() -> Vec<u64> {
         *owner = session as u64 + 1;
     }
     table[680..SETS].fill(u64::MAX);
+    table[MASKS..].fill(u64::MAX);
     table
 }
 

@@ -1,7 +1,7 @@
 //! The label requests on a table known to be the sound image of a machine state, and the label set-up.
 
 use crate::roles::{close, end, open, start, within};
-use crate::table::{are_empty, has, Table, ACTIVE, ASSIGNED, DIRECT, GRANTED, OWNER, PERMITTED, STATIC};
+use crate::table::{are_empty, has, Table, ACTIVE, ASSIGNED, DIRECT, GRANTED, MASKS, OWNER, PERMITTED, STATIC};
 use crate::{yes_or_no, NO, YES};
 
 const EQUAL: u64 = 0;
@@ -72,7 +72,7 @@ pub fn is_image(t: &Table) -> bool {
         && (0..64).all(is_granted)
         && (0..32).all(is_seat)
         && are_empty(&t[STATIC..DIRECT])
-        && t[DIRECT..] == LINKS
+        && t[DIRECT..MASKS] == LINKS
 }
 
 /// A label request on a sound image: refusals 15 and 16, then yes or no with spent.
@@ -113,7 +113,7 @@ pub fn set_up(t: &mut Table, clearances: &[u8; 64], labels: &[u8; 64]) -> Result
     t.fill(0);
     t[..PERMITTED].copy_from_slice(&SENIORITY);
     t[PERMITTED..ASSIGNED].copy_from_slice(&PERMISSIONS);
-    t[DIRECT..].copy_from_slice(&LINKS);
+    t[DIRECT..MASKS].copy_from_slice(&LINKS);
     for (at, clearance) in clearances.iter().enumerate() {
         t[ASSIGNED + at] = LOWEST_WRITER | 1 << clearance;
     }

@@ -1,6 +1,6 @@
 //! The sheet guard in plain optimised Rust, without proofs: what the proved guard's speed is measured against.
 //!
-//! Sets are words, and only the members of a word are walked. The functions of this page take lent words and answer
+//! Sets are words, and where few members are likely only these are walked. The functions of this page take lent words and answer
 //! with the scope's numbers: 1 yes, 0 no, 12 to 21 a refusal. The comparison of two labels alone takes no words, and
 //! answers with a number of its own or a refusal.
 
@@ -9,7 +9,7 @@ mod roles;
 mod table;
 pub mod transcript;
 
-use table::{is_sound, permissions_of, Table};
+use table::{is_sound, Table, HOLDS, MASKS, STATIC};
 
 const YES: u64 = 1;
 const NO: u64 = 0;
@@ -62,10 +62,8 @@ pub fn role_request(words: &mut [u64], code: u64, a: u64, b: u64, c: u64) -> u64
 
 /// Whether two tables are alike.
 pub fn alike(first: &[u64], second: &[u64]) -> u64 {
-    let same = |one: &Table, other: &Table| {
-        one[table::HOLDS..table::STATIC] == other[table::HOLDS..table::STATIC]
-            && (0..32).all(|s| permissions_of(one, s) == permissions_of(other, s))
-    };
+    let same =
+        |one: &Table, other: &Table| one[HOLDS..STATIC] == other[HOLDS..STATIC] && one[MASKS..] == other[MASKS..];
     number(sound(first).and_then(|one| Ok(yes_or_no(same(one, sound(second)?)))))
 }
 
@@ -108,7 +106,7 @@ pub fn effective_permissions(words: &[u64], session: u64, masks: &mut [u64]) -> 
         if session > 31 || masks.len() != 8 {
             return Err(16);
         }
-        masks.copy_from_slice(&permissions_of(table, session as usize));
+        masks.copy_from_slice(&table[MASKS + 8 * session as usize..][..8]);
         Ok(YES)
     }))
 }

@@ -1,9 +1,9 @@
 //! The fourteen role requests on a table known to be sound, and the role set-up.
 
 use crate::table::{
-    all_hold, are_empty, authorised, closure, covered, has, holds, is_bad_pair, is_effective, is_subset, openings_fit,
-    session_fits, static_fit, Members, Table, ACTIVE, ASSIGNED, DIRECT, DYNAMIC, GRANTED, HOLDS, OWNER, PERMITTED,
-    STATIC,
+    all_hold, all_masks, are_empty, authorised, closure, covered, granted_to, has, holds, holds_fit, is_bad_pair,
+    is_subset, meeting, session_fits, static_fit, Masks, Members, Table, ACTIVE, ASSIGNED, DIRECT, DYNAMIC, GRANTED,
+    HOLDS, MASKS, OWNER, PERMITTED, STATIC,
 };
 use crate::{yes_or_no, YES};
 
@@ -48,20 +48,8 @@ fn add(t: &mut Table, at: usize, member: usize) -> bool {
     true
 }
 
-/// Takes a member off a word, and puts it back where the table does not fit without it.
-#[inline]
-fn remove(t: &mut Table, at: usize, member: usize, fits: impl Fn(&Table) -> bool) -> bool {
-    let old = t[at];
-    t[at] = old & !(1 << member);
-    let yes = fits(t);
-    if !yes {
-        t[at] = old;
-    }
-    yes
-}
-
 pub fn open(t: &mut Table, s: usize, o: usize, x: usize) -> bool {
-    is_effective(t, t[ACTIVE + s], x, o) && add(t, HOLDS + 8 * s + x, o)
+    has(t[MASKS + 8 * s + x], o) && add(t, HOLDS + 8 * s + x, o)
 }
 
 pub fn close(t: &mut Table, s: usize, o: usize, x: usize) -> bool {
@@ -73,7 +61,19 @@ pub fn start(t: &mut Table, s: usize, u: usize, roles: u64) -> bool {
     let yes = t[OWNER + s] == 0 && is_subset(roles, authorised(t, u)) && dynamic_fit(t, roles);
     if yes {
         t[OWNER + s] = u as u64 + 1;
+        seat(t, s, roles);
+    }
+    yes
+}
+
+/// Makes exactly these roles active in a session, with its masks, where the masks have all that it holds open.
+#[inline]
+fn seat(t: &mut Table, s: usize, roles: u64) -> bool {
+    let masks = granted_to(t, covered(t, roles));
+    let yes = holds_fit(t, s, &masks);
+    if yes {
         t[ACTIVE + s] = roles;
+        t[MASKS + 8 * s..][..8].copy_from_slice(&masks);
     }
     yes
 }
@@ -82,17 +82,20 @@ pub fn end(t: &mut Table, s: usize) -> bool {
     let busy = t[OWNER + s] != 0;
     t[OWNER + s] = 0;
     t[ACTIVE + s] = 0;
-    t[HOLDS + 8 * s..HOLDS + 8 * s + 8].fill(0);
+    t[HOLDS + 8 * s..][..8].fill(0);
+    t[MASKS + 8 * s..][..8].fill(0);
     busy
 }
 
 fn activate(t: &mut Table, s: usize, r: usize) -> bool {
-    let owner = t[OWNER + s] as usize;
-    owner != 0 && has(authorised(t, owner - 1), r) && dynamic_fit(t, t[ACTIVE + s] | 1 << r) && add(t, ACTIVE + s, r)
+    let (owner, roles) = (t[OWNER + s] as usize, t[ACTIVE + s] | 1 << r);
+    let yes = owner != 0 && has(authorised(t, owner - 1), r) && dynamic_fit(t, roles);
+    yes && (t[ACTIVE + s] == roles || seat(t, s, roles))
 }
 
 fn drop_role(t: &mut Table, s: usize, r: usize) -> bool {
-    remove(t, ACTIVE + s, r, |t| openings_fit(t, s))
+    let roles = t[ACTIVE + s] & !(1 << r);
+    t[ACTIVE + s] == roles || seat(t, s, roles)
 }
 
 /// Whether active roles fit the dynamic sets.
@@ -107,25 +110,51 @@ fn assign(t: &mut Table, u: usize, r: usize) -> bool {
 }
 
 fn deassign(t: &mut Table, u: usize, r: usize) -> bool {
-    remove(t, ASSIGNED + u, r, |t| {
-        let roles = authorised(t, u);
-        (0..32).all(|s| t[OWNER + s] != u as u64 + 1 || t[ACTIVE + s] & !roles == 0)
-    })
+    let assigned = t[ASSIGNED + u] & !(1 << r);
+    let roles = covered(t, assigned);
+    let yes = (0..32).all(|s| t[OWNER + s] != u as u64 + 1 || is_subset(t[ACTIVE + s], roles));
+    if yes {
+        t[ASSIGNED + u] = assigned;
+    }
+    yes
 }
 
 fn grant(t: &mut Table, r: usize, x: usize, o: usize) -> Result<bool, u64> {
+    let at = GRANTED + 64 * x + o;
     if !has(t[PERMITTED + x], o) {
         return Err(17);
     }
-    Ok(add(t, GRANTED + 64 * x + o, r))
+    if !has(t[at], r) {
+        let granted = t[at] | 1 << r;
+        put_granted(t, x, o, granted, meeting(&t[..64], granted));
+    }
+    Ok(true)
 }
 
 fn revoke(t: &mut Table, r: usize, x: usize, o: usize) -> Result<bool, u64> {
+    let at = GRANTED + 64 * x + o;
     if !has(t[PERMITTED + x], o) {
         return Err(17);
     }
-    let at = GRANTED + 64 * x + o;
-    Ok(remove(t, at, r, |t| (0..32).all(|s| !has(t[HOLDS + 8 * s + x], o) || t[at] & covered(t, t[ACTIVE + s]) != 0)))
+    if has(t[at], r) {
+        let granted = t[at] & !(1 << r);
+        let have = meeting(&t[..64], granted);
+        if (0..32).any(|s| has(t[HOLDS + 8 * s + x], o) && t[ACTIVE + s] & have == 0) {
+            return Ok(false);
+        }
+        put_granted(t, x, o, granted, have);
+    }
+    Ok(true)
+}
+
+/// Writes the roles that a pair is granted to, and the pair's bit in the masks of all sessions by the roles that have it.
+fn put_granted(t: &mut Table, x: usize, o: usize, granted: u64, have: u64) {
+    t[GRANTED + 64 * x + o] = granted;
+    for s in 0..32 {
+        let effective = u64::from(t[ACTIVE + s] & have != 0) << o;
+        let mask = &mut t[MASKS + 8 * s + x];
+        *mask = *mask & !(1 << o) | effective;
+    }
 }
 
 /// Replaces the pair at a place where its set holds; refusal 21.
@@ -143,37 +172,41 @@ fn separate(t: &mut Table, at: usize, mask: u64, bound: u64) -> Result<bool, u64
     Ok(yes)
 }
 
-/// Puts role r above q: r and every role above it get all that q has. Where q has r, which is where it is r or above it, the
-/// answer is no; authorised roles only grow, so that nothing else can break but static sets.
+/// Puts role r above q. Where q has r, which is where it is r or above it, the answer is no; authorised roles only grow, so that
+/// nothing else can break but static sets.
 fn link(t: &mut Table, r: usize, q: usize) -> bool {
-    if has(t[q], r) {
-        return false;
-    }
-    let rows = std::array::from_fn(|a| if has(t[a], r) { t[a] | t[q] } else { t[a] });
-    relink(t, DIRECT + r, t[DIRECT + r] | 1 << q, &rows, static_fit)
+    !has(t[q], r) && relink(t, r, t[DIRECT + r] | 1 << q, static_fit, |_, _| true)
 }
 
-/// Takes q from the direct juniors of r. Authorised roles only shrink, so that nothing can break but what sessions have.
+/// Takes the link from role r to q away. Authorised roles only become fewer, so that only sessions can break.
 fn unlink(t: &mut Table, r: usize, q: usize) -> bool {
-    if !has(t[DIRECT + r], q) {
-        return false;
-    }
-    let mut direct: [u64; 64] = std::array::from_fn(|a| t[DIRECT + a]);
-    direct[r] &= !(1 << q);
-    relink(t, DIRECT + r, direct[r], &closure(&direct), |t| (0..32).all(|s| session_fits(t, s)))
+    let roles_fit = |t: &Table| (0..32).all(|s| session_fits(t, s));
+    let openings_fit = |t: &Table, masks: &[Masks; 32]| (0..32).all(|s| holds_fit(t, s, &masks[s]));
+    has(t[DIRECT + r], q) && relink(t, r, t[DIRECT + r] & !(1 << q), roles_fit, openings_fit)
 }
 
-/// Writes one word of direct juniors and all juniors, and puts them back where the table does not fit with them.
-fn relink(t: &mut Table, at: usize, direct: u64, rows: &[u64; 64], fits: impl Fn(&Table) -> bool) -> bool {
-    let (old_direct, old_rows): (u64, [u64; 64]) = (t[at], std::array::from_fn(|r| t[r]));
-    t[at] = direct;
-    t[..64].copy_from_slice(rows);
-    let yes = fits(t);
-    if !yes {
-        t[at] = old_direct;
-        t[..64].copy_from_slice(&old_rows);
+/// Writes the direct juniors of role r with the juniors and the masks that they lead to, and puts the juniors back where the table
+/// does not fit with them.
+fn relink(
+    t: &mut Table,
+    r: usize,
+    juniors: u64,
+    roles_fit: impl Fn(&Table) -> bool,
+    openings_fit: impl Fn(&Table, &[Masks; 32]) -> bool,
+) -> bool {
+    let rows: [u64; 64] = std::array::from_fn(|a| t[a]);
+    let mut direct: [u64; 64] = std::array::from_fn(|a| t[DIRECT + a]);
+    direct[r] = juniors;
+    t[..64].copy_from_slice(&closure(&direct));
+    let masks = roles_fit(t).then(|| all_masks(t)).filter(|masks| openings_fit(t, masks));
+    match masks {
+        Some(masks) => {
+            t[DIRECT + r] = juniors;
+            t[MASKS..].copy_from_slice(masks.as_flattened());
+        }
+        None => t[..64].copy_from_slice(&rows),
     }
-    yes
+    masks.is_some()
 }
 
 /// The direct juniors without own bits, their closure, the permissions and nothing else; refusal 20.
@@ -186,6 +219,6 @@ pub fn set_up(t: &mut Table, juniors: &[u64; 64], permissions: &[u64; 8]) -> Res
     t.fill(0);
     t[..64].copy_from_slice(&rows);
     t[PERMITTED..ASSIGNED].copy_from_slice(permissions);
-    t[DIRECT..].copy_from_slice(&direct);
+    t[DIRECT..MASKS].copy_from_slice(&direct);
     Ok(YES)
 }

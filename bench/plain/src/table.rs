@@ -1,4 +1,4 @@
-//! The table, authorised roles, effective permissions, separation sets, seniority and soundness.
+//! The table, authorised roles, effective permissions and their masks, separation sets, seniority and soundness.
 
 pub const PERMITTED: usize = 64;
 pub const ASSIGNED: usize = 72;
@@ -9,7 +9,8 @@ pub const HOLDS: usize = 712;
 pub const STATIC: usize = 968;
 pub const DYNAMIC: usize = 1000;
 pub const DIRECT: usize = 1032;
-pub const WORDS: usize = 1096;
+pub const MASKS: usize = 1096;
+pub const WORDS: usize = 1352;
 
 pub type Table = [u64; WORDS];
 
@@ -51,29 +52,62 @@ pub fn authorised(t: &Table, user: usize) -> u64 {
     covered(t, t[ASSIGNED + user])
 }
 
-/// The effective permissions of a session, a word of objects for each mode.
-pub fn permissions_of(t: &Table, s: usize) -> [u64; 8] {
-    let roles = covered(t, t[ACTIVE + s]);
-    if roles == 0 {
-        return [0; 8];
+/// A word of objects for each mode.
+pub type Masks = [u64; 8];
+
+/// The places of those words that have a member of the set, from the last word down.
+#[inline]
+pub fn meeting(words: &[u64], set: u64) -> u64 {
+    words.iter().rev().fold(0, |all, word| all << 1 | u64::from(word & set != 0))
+}
+
+/// What is granted to one of the roles: where all objects are permissions by going straight through them.
+pub fn granted_to(t: &Table, roles: u64) -> Masks {
+    let granted = |x: usize| {
+        let words = &t[GRANTED + 64 * x..][..64];
+        match t[PERMITTED + x] {
+            u64::MAX => meeting(words, roles),
+            permitted => Members(permitted).filter(|o| words[*o] & roles != 0).fold(0, |all, o| all | 1 << o),
+        }
+    };
+    std::array::from_fn(|x| if roles == 0 { 0 } else { granted(x) })
+}
+
+/// What is granted to each role, for the masks of many sessions.
+struct Grants([Masks; 64]);
+
+impl Grants {
+    fn of(t: &Table) -> Grants {
+        let mut grants = [[0; 8]; 64];
+        for x in 0..8 {
+            for o in Members(t[PERMITTED + x]) {
+                Members(t[GRANTED + 64 * x + o]).for_each(|role| grants[role][x] |= 1 << o);
+            }
+        }
+        Grants(grants)
     }
-    std::array::from_fn(|x| {
-        let granted = |o: &usize| t[GRANTED + 64 * x + o] & roles != 0;
-        Members(t[PERMITTED + x]).filter(granted).fold(0, |all, o| all | 1 << o)
-    })
+
+    /// What is granted to one of the roles.
+    #[inline]
+    fn to(&self, roles: u64) -> Masks {
+        let mut masks = [0; 8];
+        for role in Members(roles) {
+            masks.iter_mut().zip(&self.0[role]).for_each(|(mask, objects)| *mask |= objects);
+        }
+        masks
+    }
 }
 
-/// Whether a pair is effective for a session with these roles active.
-#[inline]
-pub fn is_effective(t: &Table, active: u64, x: usize, o: usize) -> bool {
-    has(t[PERMITTED + x], o) && t[GRANTED + 64 * x + o] & covered(t, active) != 0
+/// The masks of every session.
+pub fn all_masks(t: &Table) -> [Masks; 32] {
+    let grants = Grants::of(t);
+    std::array::from_fn(|s| grants.to(covered(t, t[ACTIVE + s])))
 }
 
-/// Whether all that a session holds open is granted to one of its roles or of their juniors.
+/// Whether a session with these masks holds nothing open that is not in them.
 #[inline]
-pub fn openings_fit(t: &Table, s: usize) -> bool {
-    let roles = covered(t, t[ACTIVE + s]);
-    (0..8).all(|x| Members(t[HOLDS + 8 * s + x]).all(|o| t[GRANTED + 64 * x + o] & roles != 0))
+pub fn holds_fit(t: &Table, s: usize, masks: &Masks) -> bool {
+    (0..8).fold(0, |beyond, x| beyond | t[HOLDS + 8 * s + x] & !masks[x]) == 0
 }
 
 /// Whether the juniors of role r are r and all that its direct juniors have, none of whom has r. Of all 64 roles together
@@ -95,16 +129,29 @@ fn grants_fit(t: &Table, x: usize) -> bool {
     }
 }
 
-/// Whether the active roles of a session are authorised and its openings effective.
+/// Whether the active roles of a session are authorised.
 #[inline]
 pub fn session_fits(t: &Table, s: usize) -> bool {
     let active = t[ACTIVE + s];
-    let roles_fit = match t[OWNER + s] {
+    match t[OWNER + s] {
         0 => active == 0,
         owner @ 1..=64 => is_subset(active, authorised(t, owner as usize - 1)),
         _ => false,
-    };
-    roles_fit && openings_fit(t, s)
+    }
+}
+
+/// Whether the masks of each session are what is effective, and have all that it holds open.
+#[inline]
+fn masks_fit(t: &Table) -> bool {
+    if are_empty(&t[ACTIVE..HOLDS]) {
+        return are_empty(&t[HOLDS..STATIC]) && are_empty(&t[MASKS..]);
+    }
+    let grants = Grants::of(t);
+    (0..32).all(|s| {
+        let masks = grants.to(covered(t, t[ACTIVE + s]));
+        let fault = |x: usize| (t[MASKS + 8 * s + x] ^ masks[x]) | (t[HOLDS + 8 * s + x] & !masks[x]);
+        (0..8).fold(0, |all, x| all | fault(x)) == 0
+    })
 }
 
 /// The number of members of a word.
@@ -131,10 +178,10 @@ pub fn all_hold(pairs: &[u64], roles: u64) -> bool {
     pairs.chunks_exact(2).all(|pair| holds(pair[0], pair[1], roles))
 }
 
-/// Whether all these pairs are empty.
+/// Whether all these words are 0.
 #[inline]
-pub fn are_empty(pairs: &[u64]) -> bool {
-    pairs.iter().fold(0, |all, word| all | word) == 0
+pub fn are_empty(words: &[u64]) -> bool {
+    words.iter().fold(0, |all, word| all | word) == 0
 }
 
 /// Whether every static set holds of each user's roles.
@@ -158,8 +205,11 @@ pub fn closure(direct: &[u64; 64]) -> [u64; 64] {
     let mut rows: [u64; 64] = std::array::from_fn(|r| direct[r] | 1 << r);
     for k in 0..64 {
         let below = rows[k];
-        for row in rows.iter_mut().filter(|row| has(**row, k)) {
-            *row |= below;
+        if below == 1 << k {
+            continue;
+        }
+        for row in &mut rows {
+            *row |= if has(*row, k) { below } else { 0 };
         }
     }
     rows
@@ -170,5 +220,6 @@ pub fn is_sound(t: &Table) -> bool {
     (0..64).all(|r| role_fits(t, r))
         && (0..8).all(|x| grants_fit(t, x))
         && (0..32).all(|s| session_fits(t, s))
+        && masks_fit(t)
         && sets_fit(t)
 }

@@ -1,24 +1,23 @@
 -- Laws of likeness: its plain facts, and the order of its answers. Assumes nothing.
 use Prim.Native.Nat.{ℕ, _<_}
-use mathlib.Core.Path.{_≡_, sym, ap, _∙_}
+use mathlib.Core.Path.{_≡_, sym, ap, ap₂, _∙_}
 use mathlib.Core.Bool.{true, false}
 use mathlib.Core.List.{List}
 use lib.Dec.{eqb}
-use lib.ListN.{length, getD}
 use borrow.Author.Tests.{eq-eqb, eqb-true}
-use Rattle.bits.specs.Words.{_and_, has, pack}
+use Rattle.bits.specs.Words.{_and_, has, all, pack}
 use Rattle.bits.proofs.Truth.{and-intro, and-left, and-right, past, stopped, if-true, if-false}
-use Rattle.bits.proofs.Below.{all-intro, all-elim}
+use Rattle.bits.proofs.Below.{all-intro, all-elim, all-cong}
 use Rattle.bits.proofs.Word.{has-pack, pack-cong}
 use Rattle.table.specs.State.{State}
 use Rattle.table.specs.Authority.{effective}
 use Rattle.table.specs.Sound.{sound}
 use Rattle.table.specs.Reading.{state}
-use Rattle.table.specs.Table.{tableLength, isTable}
-use Rattle.table.specs.Answers.{effectivePermissions}
-use Rattle.table.proofs.Table.{in-table}
-use Rattle.bits.proofs.Tabulate.{getD-tabulate}
-use Rattle.table.proofs.Answers.{effective-permissions-are}
+use Rattle.table.specs.Table.{isTable}
+use Rattle.table.specs.Masks.{maskOf}
+use Rattle.table.proofs.Sound.{sound-masks}
+use Rattle.sound.specs.Answers.{isSound}
+use Rattle.sound.proofs.Answers.{sound-state}
 use Rattle.alike.specs.Likeness.{sameSession, sameState, likeness, Alike}
 
 -- ---- the plain facts
@@ -71,9 +70,12 @@ module _ (first second : List ℕ) where
     unfolding likeness
     like-no j r e = sym (past _ _ i ∙ past _ _ s ∙ past _ _ j ∙ past _ _ r ∙ if-false _ _ e)
 
--- the masks that the code compares
-pub mask-at : {masks : List ℕ} (t : List ℕ) (s x : ℕ) → length t ≡ tableLength → s < 32 → x < 8 → masks ≡ effectivePermissions t s
-    → getD masks x 0 ≡ pack 64 (effective (state t) s x)
-mask-at t s x e hs hx m =
-    ap (λ (l : List ℕ). getD l x 0) (m ∙ sym (effective-permissions-are t s (in-table t s 32 e hs)))
-    ∙ getD-tabulate 8 _ 0 x hx
+-- the words that the code compares: in sound tables the masks are what is effective
+pub same-words : (t t′ : List ℕ) (s : ℕ) → isSound t ≡ true → isSound t′ ≡ true → s < 32
+    → all 8 (λ x. eqb (state t .holds s x) (state t′ .holds s x) and eqb (state t .masks s x) (state t′ .masks s x)) ≡ sameSession (state t) (state t′) s
+unfolding sameSession maskOf
+same-words t t′ s e e′ hs =
+    all-cong 8 (λ x hx. ap₂ (λ (w w′ : ℕ). eqb (state t .holds s x) (state t′ .holds s x) and eqb w w′) (true-mask t e x hx) (true-mask t′ e′ x hx))
+  where
+    true-mask : (t : List ℕ) → isSound t ≡ true → (x : ℕ) → x < 8 → state t .masks s x ≡ maskOf (state t) s x
+    true-mask t e x hx = sound-masks (state t) (sound-state t e) s x hs hx

@@ -2,27 +2,29 @@
 use roles::Answer;
 use roles::Refusal;
 use table::layout::HOLDS;
+use table::layout::MASKS;
 use table::layout::WORDS;
 ghost use mathlib.Core.Path.{_≡_};
+ghost use mathlib.Core.Bool.{true};
 ghost use Prim.Native.Nat.{_<_};
 ghost use lib.ListN.{length};
 ghost use Rattle.table.specs.Reading.{state};
 ghost use Rattle.table.specs.Table.{tableLength};
+ghost use Rattle.sound.specs.Answers.{isSound};
 ghost use Rattle.roles.specs.Answer.{numberOf};
 ghost use Rattle.alike.specs.Likeness.{sameSession, likeness};
 
-// Whether session s holds the same in both tables, and the same is effective for it.
+// Whether session s holds the same in both tables, which are known to be sound, and the same is effective for it: what it may
+// open stands in its masks.
 fn same_session(first: &[u64], second: &[u64], s: usize) -> bool
-    requires { ⌜ (length (now first) ≡ tableLength) × ((length (now second) ≡ tableLength) × (s < 32)) ⌝ }
+    requires { ⌜ (length (now first) ≡ tableLength) × (length (now second) ≡ tableLength) × (s < 32) × (isSound (now first) ≡ true) × (isSound (now second) ≡ true) ⌝ }
     ensures { λ b. ⌜ b ≡ sameSession (state (now (first .entry))) (state (now (second .entry))) s ⌝ }
 {
-    let here = table::effective_permissions(first, s);
-    let there = table::effective_permissions(second, s);
     for x in 0..8 {
         if first[HOLDS + 8 * s + x] != second[HOLDS + 8 * s + x] {
             return false;
         }
-        if here[x] != there[x] {
+        if first[MASKS + 8 * s + x] != second[MASKS + 8 * s + x] {
             return false;
         }
     }

@@ -8,7 +8,7 @@ use native.Mathlib.Omega.{arith}
 use lib.Dec.{ltb}
 use borrow.Author.Tests.{ltb-true, ltb-false}
 use Rattle.bits.proofs.Truth.{by-truth}
-use lib.ListN.{length, getD, set, length-set}
+use lib.ListN.{length, getD, set, length-set, replicate, length-replicate, getD-replicate}
 use lib.Seq.{ext-getD, getD-set-same, getD-set-other}
 use Rattle.bits.proofs.Below.{below-suc}
 use Rattle.bits.specs.Words.{tabulate}
@@ -54,6 +54,14 @@ module _ {f : ℕ → ℕ} {n : ℕ} {out : List ℕ} where
   fill-end k h =
       ext-getD 0 out (tabulate n f) (k .long ∙ sym (length-tabulate n f))
       (λ j l. let m = k .long in k .filled j (omega arith) ∙ sym (getD-tabulate n f 0 j (omega arith)))
+
+-- the list of which each of its n places is known
+pub tabulated : (n : ℕ) (f : ℕ → ℕ) {out : List ℕ} → length out ≡ n → ((i : ℕ) → i < n → getD out i 0 ≡ f i) → out ≡ tabulate n f
+tabulated n f e k = fill-end (record { within = omega arith; long = e; filled = k }) (omega arith)
+
+-- a list of nothing but 0
+pub zeros : (n : ℕ) (f : ℕ → ℕ) → ((i : ℕ) → i < n → f i ≡ 0) → replicate n 0 ≡ tabulate n f
+zeros n f k = tabulated n f (length-replicate n 0) (λ i h. getD-replicate n i 0 0 h ∙ sym (k i h))
 
 -- ---- a loop that writes f into a list from the place at on: what lies before i is written
 

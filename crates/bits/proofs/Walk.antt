@@ -1,21 +1,22 @@
 -- Going through the members of a word, lowest first: what a loop `while m != 0 { q = lowest(m); m = rest(m); .. }` needs.
--- Its invariant is an equation between the whole word and what is left of it, one record for each use; the last record is for
--- a loop that asks the numbers from 0 up. Assumes nothing.
+-- Its invariant is an equation between the whole word and what is left of it, one record for each use; the last two records
+-- are for loops that ask all numbers below a bound, from 0 up and from the last one down. Assumes nothing.
 use Prim.Native.Nat.{ℕ, zero, suc, _+_, _-_, _*_, _/_, _%_, _^_, _≤_, _<_}
-use mathlib.Core.Path.{_≡_, refl, sym, ap, ap₂, _∙_}
+use mathlib.Core.Path.{_≡_, refl, sym, ap, ap₂, subst, _∙_}
 use mathlib.Core.Bool.{Bool, true, false}
 use native.Mathlib.Nat.{pow-suc, mul-assoc, mod-self, mod-eq-of-lt, mod-lt, add-zero}
+use native.Mathlib.Numerals.{add-one}
 use native.Mathlib.Omega.{arith}
 use lib.Dec.{eqb}
 use lib.Count.{trailingZeros, under, trailing-of-zero}
 use lib.Bits.{bitAnd, and-self, and-block, and-mask, or-shifted, and-shifted}
-use lib.Pow.{pow-pos, pow-lt}
+use lib.Pow.{pow-pos, pow-mono, pow-lt}
 use borrow.Author.Tests.{eq-eqb, ne-eqb, eqb-true, eqb-false}
-use Rattle.bits.specs.Words.{_and_, _or_, if_then_else_, has, pack, _with_}
+use Rattle.bits.specs.Words.{_and_, _or_, if_then_else_, has, bit, pack, _with_}
 use Rattle.bits.specs.Sets.{each, any, least, _without_, join, lowest, rest, some, IsLowest, IsRest}
 use Rattle.bits.proofs.Truth.{clash, by-truth, is-false, same-truth, and-intro, and-left, and-right, or-left, or-right, or-elim, or-false, false-or, or-assoc, true-and, false-and}
 use Rattle.bits.proofs.Below.{least-is}
-use Rattle.bits.proofs.Word.{has-zero, has-or, has-and, has-pow, has-join, with-lt, with-elim, with-old, with-new, join-lt, without-lt, without-old, without-other, without-keeps, without-absent, same-members, pack-is, pack-with, pack-without}
+use Rattle.bits.proofs.Word.{has-zero, has-or, has-and, has-pow, has-join, with-lt, with-elim, with-old, with-new, join-lt, without-lt, without-old, without-other, without-keeps, without-absent, same-members, pack-is, pack-lt, pack-cong, pack-low, pack-with, pack-without}
 use Rattle.bits.proofs.Members.{each-intro, each-elim, each-none, some-intro, some-elim, some-none}
 
 -- ---- the lowest bit of a number
@@ -167,6 +168,22 @@ lowest-found w l = record {
 pub rest-none : rest 0 ≡ 0
 unfolding rest
 rest-none = without-absent 0 (lowest 0) (pow-pos 64) (has-zero (lowest 0))
+
+-- ---- the members of a word that is not empty, after its lowest was taken
+
+module _ {m q m′ : ℕ} (w : m < 2 ^ 64) (n : m ≡ 0 → ⊥) (e : IsLowest m q) (d : IsRest m m′) where
+  pub lowest-there : has m q ≡ true
+  lowest-there = ap (has m) (e .is) ∙ lowest-in m w n
+
+  pub lowest-gone : has m′ q ≡ false
+  unfolding rest
+  lowest-gone = is-false (λ p. without-other m _ q (e .below) (sym (ap (λ (x : ℕ). has x q) (d .is)) ∙ p) (e .is))
+
+  pub others-left : (i : ℕ) → i < 64 → (i ≡ q → ⊥) → has m′ i ≡ has m i
+  unfolding rest
+  others-left i h o =
+      ap (λ (x : ℕ). has x i) (d .is)
+      ∙ same-truth (rest-in m w n i h) (without-keeps m _ i h (λ z. o (z ∙ sym (e .is))))
 
 -- ---- a loop that tests the members of w: those of m are left
 
@@ -337,3 +354,39 @@ module _ {f : ℕ → Bool} {n : ℕ} where
 
     pub packing-pass : {acc′ : ℕ} → f i ≡ false → acc′ ≡ acc → Packing f n (i + 1) acc′
     packing-pass p z = record { within = omega arith; is = z ∙ k .is ∙ pack-without f i p }
+
+-- ---- a loop that packs them from the last one down: k of n are passed, and each doubles what is packed
+
+pub record Stacking (f : ℕ → Bool) (n k acc : ℕ) : Type 0 where
+  pub within : k ≤ n
+  pub is : acc ≡ pack k (λ i. f (n - k + i))
+
+module _ {f : ℕ → Bool} {n : ℕ} where
+  pub stack-start : Stacking f n 0 0
+  unfolding pack
+  stack-start = record { within = omega arith; is = refl }
+
+  pub stack-end : {k acc : ℕ} → Stacking f n k acc → n ≤ k → acc ≡ pack n f
+  stack-end {k} s h =
+      let w = s .within in
+      s .is ∙ ap (λ (j : ℕ). pack j (λ i. f (n - k + i))) (omega arith) ∙ pack-cong n (λ i l. ap f (omega arith))
+
+  module _ {k acc : ℕ} (s : Stacking f n k acc) (h : k < n) where
+    -- there is room for one place more
+    pub stack-room : n ≤ 64 → acc + acc + 1 < 2 ^ 64
+    stack-room l =
+        let a : acc < 2 ^ k = subst (λ (x : ℕ). x < 2 ^ k) (sym (s .is)) (pack-lt _ k) in
+        let m : suc k ≤ 64 = omega arith in
+        let b : 2 ^ suc k ≤ 2 ^ 64 = pow-mono m in
+        let c = pow-suc 2 k in
+        omega arith
+
+    pub stack-step : {acc′ : ℕ} → acc′ ≡ acc + acc + bit (f (n - (k + 1))) → Stacking f n (k + 1) acc′
+    stack-step z = record {
+      within = omega arith;
+      is =
+          let e = pack-low k (λ i. f (n - (k + 1) + i)) in
+          let d : pack k (λ i. f (n - (k + 1) + suc i)) ≡ acc = pack-cong k (λ i l. ap f (omega arith)) ∙ sym (s .is) in
+          let b : bit (f (n - (k + 1) + 0)) ≡ bit (f (n - (k + 1))) = ap (λ (i : ℕ). bit (f i)) (add-zero _) in
+          z ∙ sym (ap (λ (j : ℕ). pack j (λ i. f (n - (k + 1) + i))) (add-one k) ∙ e ∙ omega arith);
+    }

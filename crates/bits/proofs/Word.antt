@@ -11,7 +11,7 @@ use lib.Pow.{pow-pos, pow-mono, mod-mod-pow, field, low, high, mod-pow-add, pow-
 use borrow.Author.Tests.{eq-eqb, ne-eqb, eqb-true}
 use Rattle.bits.specs.Words.{_and_, _or_, has, bit, pack, _with_}
 use Rattle.bits.specs.Sets.{_without_, join}
-use Rattle.bits.proofs.Truth.{clash, by-truth, is-false, and-intro, and-left, and-right, or-left, or-right, or-elim, or-comm, and-comm, false-or, true-and, not-intro}
+use Rattle.bits.proofs.Truth.{clash, by-truth, and-intro, and-left, and-right, or-left, or-right, or-elim, or-comm, and-comm, false-or, true-and, false-and, not-intro}
 use Rattle.bits.proofs.Below.{below-suc}
 
 -- ---- one digit
@@ -102,6 +102,22 @@ module _ (f : ℕ → Bool) where
       (λ l. sym (has-mod (bit (f n) * 2 ^ n + pack n f) i n l)
       ∙ ap (λ (x : ℕ). has x i) (low (bit (f n)) n (pack-lt n))
       ∙ has-pack n i l)
+
+-- the largest word has all numbers below 64
+all-members : pack 64 (λ i. true) ≡ 18446744073709551615
+unfolding pack bit
+all-members = refl
+
+pub has-all : (i : ℕ) → i < 64 → has 18446744073709551615 i ≡ true
+has-all i h = sym (ap (λ (w : ℕ). has w i) all-members) ∙ has-pack _ 64 i h
+
+-- its lowest place apart
+pub pack-low : (n : ℕ) (f : ℕ → Bool) → pack (suc n) f ≡ bit (f 0) + 2 * pack n (λ i. f (suc i))
+unfolding pack
+pack-low zero f = omega arith
+pack-low (suc n) f =
+    let e = pack-low n f in
+    rw pow-suc (digit (bit (f (suc n))) (bit-lt (f (suc n))) (λ b. rw b (omega arith)) (λ b. rw b (omega arith)))
 
 pub pack-cong : {f g : ℕ → Bool} (n : ℕ) → ((i : ℕ) → i < n → f i ≡ g i) → pack n f ≡ pack n g
 unfolding pack
@@ -217,20 +233,20 @@ without-other w i j h e q =
 pub without-keeps : (w i j : ℕ) → j < 64 → (j ≡ i → ⊥) → has w j ≡ true → has (w without i) j ≡ true
 without-keeps w i j h n e = has-without w i j h ∙ and-intro (ap not (ne-eqb j i n)) e
 
+-- a member that is there added, and one that is absent removed: the same members
+pub with-same : (w i : ℕ) → has w i ≡ true → (j : ℕ) → j < 64 → has (w with i) j ≡ has w j
+with-same w i e j h = has-with w i j h ∙ by-truth (eqb j i) (λ b. or-left _ b ∙ sym (ap (has w) (eqb-true j i b) ∙ e)) (λ b. false-or _ b)
+
+pub without-same : (w i : ℕ) → has w i ≡ false → (j : ℕ) → j < 64 → has (w without i) j ≡ has w j
+without-same w i e j h =
+    has-without w i j h ∙ by-truth (eqb j i) (λ b. false-and _ (ap not b) ∙ sym (ap (has w) (eqb-true j i b) ∙ e)) (λ b. true-and _ (not-intro b))
+
 -- adding what is there, and removing what is not, changes nothing
 pub with-there : (w i : ℕ) → w < 2 ^ 64 → has w i ≡ true → w with i ≡ w
-with-there w i h e =
-    same-members (w with i) w (with-lt w i) h (λ j l. has-with w i j l
-    ∙ by-truth (eqb j i)
-    (λ p. or-left (has w j) p ∙ sym (ap (λ (k : ℕ). has w k) (eqb-true j i p) ∙ e))
-    (λ p. false-or (has w j) p))
+with-there w i h e = same-members (w with i) w (with-lt w i) h (with-same w i e)
 
 pub without-absent : (w i : ℕ) → w < 2 ^ 64 → has w i ≡ false → w without i ≡ w
-without-absent w i h e =
-    same-members (w without i) w (without-lt w i) h (λ j l. has-without w i j l
-    ∙ by-truth (eqb j i)
-    (λ p. is-false (λ z. clash (and-left (not (eqb j i)) (has w j) z) (ap not p)) ∙ sym (ap (λ (k : ℕ). has w k) (eqb-true j i p) ∙ e))
-    (λ p. true-and (has w j) (ap not p)))
+without-absent w i h e = same-members (w without i) w (without-lt w i) h (without-same w i e)
 
 pub without-with : (w i : ℕ) → (w without i) with i ≡ w with i
 unfolding _with_

@@ -10,16 +10,17 @@ use Rattle.bits.specs.Sets.{each, any, some, overlap, _without_, join}
 use Rattle.table.specs.State.{State}
 use Rattle.table.specs.Authority.{covers, authorised, mayActivate, effective}
 use Rattle.table.specs.Separation.{emptyPair, fewer}
-use Rattle.table.specs.Sound.{Sound}
+use Rattle.table.specs.Sound.{sound}
 use Rattle.table.specs.Changes.{setSeniority}
 use Rattle.table.specs.Table.{encode}
 use Rattle.table.proofs.Table.{is-table}
 use Rattle.bits.proofs.Tabulate.{length-tabulate}
 use Rattle.sound.specs.Answers.{isSound, openingsFit, sessionsFit, pairFits}
 use Rattle.roles.specs.Request.{Outcome, within}
-use Rattle.roles.specs.Roles.{isCode, limits, inRange, carriesBadPair, decode, known, changed}
+use Rattle.roles.specs.Roles.{isCode, limits, inRange, carriesBadPair, decode, known, moved, changed}
 use Rattle.roles.specs.Guard.{allowedSound}
-use Rattle.roles.proofs.Playing.{stay, move, moved}
+use Rattle.roles.proofs.Playing as playing
+use Rattle.roles.proofs.Playing.{stay, move}
 use Rattle.roles.proofs.Requests.{sound-encode}
 use Rattle.closure.specs.Closure.{via, through, closure, acyclic}
 use Rattle.setup.specs.SetUp.{fresh, roleSetUp}
@@ -54,16 +55,16 @@ Shows S (asked q n ∷ rest) = (move S q .answer ≡ n) × Shows (move S q .next
 Shows S (compared a b w ∷ rest) = (stands a b ≡ w) × Shows S rest
 Shows S (holds b ∷ rest) = (b ≡ true) × Shows S rest
 
-shows-met : (rest : List Row) (S : State) → Sound S → Shows S rest → Met (encode S) rest
+shows-met : (rest : List Row) (S : State) → sound S ≡ true → Shows S rest → Met (encode S) rest
 shows-met [] S f h = h
 shows-met (asked q n ∷ rest) S f h =
-    let v = moved S f q in
+    let v = playing.moved S f q in
     (v .answer ∙ h .0, subst (λ (t : List ℕ). Met t rest) (sym (v .table)) (shows-met rest (move S q .next) (v .is-sound) (h .1)))
 shows-met (compared a b w ∷ rest) S f h = (h .0, shows-met rest S f (h .1))
 shows-met (holds b ∷ rest) S f h = (h .0, shows-met rest S f (h .1))
 
 shown : Shows (begun rows) starred
-unfolding starred permissions fresh move stay isCode limits inRange carriesBadPair within decode known changed allowedSound openingsFit sessionsFit pairFits covers authorised mayActivate effective fewer emptyPair upd has all any each some subset overlap bit pack _with_ _without_ if_then_else_ _and_ _or_ _implies_ class brands stands equalOrAbove
+unfolding starred permissions fresh move stay isCode limits inRange carriesBadPair within decode known changed moved playing.asked allowedSound openingsFit sessionsFit pairFits covers authorised mayActivate effective fewer emptyPair upd has all any each some subset overlap bit pack _with_ _without_ if_then_else_ _and_ _or_ _implies_ class brands stands equalOrAbove
 shown = (refl, (refl, (refl, (refl, (refl, (refl, (refl, (refl, (refl, (refl, (refl, (refl, (refl, (refl, (refl, (refl, (refl, (refl, (refl, (refl, (refl, (refl, (refl, (refl, tt))))))))))))))))))))))))
 
 -- ---- on the table after the set-up

@@ -1,7 +1,7 @@
 // Runs the bench cases of the scope and the vectors of the sources through the compiled guard, and writes a row for each: its
 // number, its answer, and what it spent. Rows from 101: A to H and J; from 201: vector A of source 000; from 301: the scope's
 // label listing, and label 32; from 401: labels that are easily confused; from 501: how labels stand; from 601: wrong lengths and
-// values; from 701: starts with roles chosen; from 801: separation sets.
+// values; from 701: starts with roles chosen; from 801: separation sets; from 901: links; from 951: masks.
 ghost use mathlib.Core.Path.{_≡_};
 ghost use Prim.Native.Nat.{_≤_};
 ghost use lib.ListN.{length};
@@ -641,6 +641,127 @@ const LINKS: [u64; 120] = [
     0,
 ];
 
+// Role requests: openings that follow what grants, active roles and links give, also to sessions that the request does not name, and
+// a drop, a revocation and an unlink of what is held open.
+const MASKS: [u64; 116] = [
+    9,
+    1,
+    0,
+    9,
+    7,
+    2,
+    5,
+    0,
+    3,
+    0,
+    2,
+    32,
+    3,
+    1,
+    2,
+    8,
+    1,
+    1,
+    9,
+    0,
+    10,
+    1,
+    0,
+    9,
+    2,
+    1,
+    9,
+    0,
+    10,
+    1,
+    0,
+    9,
+    1,
+    0,
+    9,
+    0,
+    1,
+    1,
+    9,
+    0,
+    9,
+    3,
+    0,
+    9,
+    1,
+    0,
+    9,
+    0,
+    6,
+    0,
+    5,
+    0,
+    5,
+    0,
+    3,
+    0,
+    6,
+    0,
+    5,
+    0,
+    4,
+    0,
+    0,
+    0,
+    1,
+    0,
+    9,
+    0,
+    3,
+    0,
+    2,
+    0,
+    1,
+    0,
+    9,
+    0,
+    7,
+    4,
+    7,
+    0,
+    3,
+    3,
+    4,
+    128,
+    1,
+    3,
+    9,
+    0,
+    13,
+    7,
+    3,
+    0,
+    1,
+    3,
+    9,
+    0,
+    14,
+    7,
+    3,
+    0,
+    2,
+    3,
+    9,
+    0,
+    14,
+    7,
+    3,
+    0,
+    1,
+    3,
+    9,
+    0,
+    1,
+    1,
+    9,
+    0,
+];
+
 // Writes a row; whether it was written.
 fn show(number: u64, answer: u64, spent: u64) -> bool {
     let mut out = [0u8; 63];
@@ -835,5 +956,8 @@ fn main() {
     if !bench_table(&SETS, 801) {
         return;
     }
-    bench_table(&LINKS, 901);
+    if !bench_table(&LINKS, 901) {
+        return;
+    }
+    bench_table(&MASKS, 951);
 }

@@ -13,13 +13,16 @@ use Rattle.bits.proofs.Word.{has-pack, pack-is, none-in}
 use Rattle.table.specs.State.{State}
 use Rattle.table.specs.Authority.{permission}
 use Rattle.table.specs.Separation.{setsEmpty}
-use Rattle.table.specs.Sound.{Sound}
+use Rattle.table.specs.Changes.{setMasks}
+use Rattle.table.specs.Masks.{MasksTrue}
+use Rattle.table.specs.Sound.{Ruled}
 use Rattle.table.specs.Reading.{state}
-use Rattle.table.proofs.Agree.{Agree}
+use Rattle.table.proofs.Agree.{Agree, agree-refl, agree-trans, agree-set-masks, mask-agree}
 use Rattle.table.proofs.Encode.{shown, state-encode}
 use Rattle.table.proofs.Seniority.{linked-closure, linked-agree}
 use Rattle.table.proofs.State.{effective-elim}
-use Rattle.table.proofs.Sound.{sound-elim}
+use Rattle.table.proofs.Sound.{sound-ruled, sound-masks}
+use Rattle.table.proofs.Masks.{mask-apart}
 use Rattle.table.proofs.Table.{table-length}
 use Rattle.sound.proofs.Answers.{sound-state, sound-table}
 use Rattle.roles.proofs.Requests.{encode-sound, sound-encode}
@@ -30,16 +33,30 @@ use Rattle.image.specs.Test.{labelOf, seatOf, machineOf, linksFit, permi
 use Rattle.image.specs.Claims.{Ranged, SoundImage, ImageMeans}
 use Rattle.image.proofs.Reading.{label-below, label-cleared, label-granted, owner-of, seat-read, seat-back}
 use Rattle.image.proofs.Rows.{linked}
-use Rattle.image.proofs.Shown.{shown-juniors, shown-direct, shown-linked, safe-sound, sound-safe, owner-is, active-is, granted-is, assigned-is}
+use Rattle.image.proofs.Shown.{shown-juniors, shown-direct, shown-linked, shown-true, safe-sound, sound-safe, owner-is, active-is, granted-is, assigned-is}
 
 -- ---- soundness
 
 pub sound-image : SoundImage
-sound-image m g = (λ e. sound-safe m g (sound-encode (image.shown m) e), λ f. encode-sound (image.shown m) (safe-sound m g f))
+sound-image m g = (λ e. sound-safe m g (sound-ruled _ (sound-encode (image.shown m) e)), λ f. encode-sound (image.shown m) (safe-sound m g f))
+
+-- ---- the machine read off a sound state
+
+pub read-ranged : (S : State) → Ruled S → Ranged (machineOf S)
+unfolding machineOf
+read-ranged S f = record {
+  clearances = λ u h. label-below (S .assigned u);
+  labels = λ o h. label-below (S .granted 0 o);
+  seats = λ s u y h e.
+      let r = seat-read (S .owner s) (S .active s) u y e in
+      let a = r .user in
+      let b = f .owners-known s h in
+      (omega arith, subst (λ (n : ℕ). n < 32) (sym (r .level)) (label-below (S .active s)));
+}
 
 -- ---- the test on a sound state of 64-bit words
 
-module _ (S : State) (f : Sound S) (words : (x o : ℕ) → S .granted x o < 2 ^ 64) (openings : (s x : ℕ) → S .holds s x < 2 ^ 64)
+module _ (S : State) (f : Ruled S) (t : MasksTrue S) (words : (x o : ℕ) → S .granted x o < 2 ^ 64) (openings : (s x : ℕ) → S .holds s x < 2 ^ 64)
     (i : isImage S ≡ true) where
   abbrev m : Machine
   m = machineOf S
@@ -110,9 +127,10 @@ module _ (S : State) (f : Sound S) (words : (x o : ℕ) → S .granted x o < 2 ^
       is-false (λ a. clash (effective-elim S s x o (f .openings-effective s x o hs hx ho a) .permitted-pair) (no-permission x o hx (ltb-false x 2 b) ho))
       ∙ sym (false-and _ b)))
 
-  pub read-agrees : Agree S (image.shown m)
+  -- but for the masks
+  read-apart : Agree (setMasks S (image.shown m .masks)) (image.shown m)
   unfolding image.shown machineOf
-  read-agrees = record {
+  read-apart = record {
     juniors = juniors-fit;
     permitted = permitted-fit;
     assigned = assigned-fit;
@@ -122,19 +140,16 @@ module _ (S : State) (f : Sound S) (words : (x o : ℕ) → S .granted x o < 2 ^
     holds = holds-fit;
     sets = λ i h. eqb-true _ 0 (all-elim _ 64 (and-right (levelsFit S) _ after-objects) i h);
     direct = direct-fit;
+    masks = λ s x hs hx. refl;
   }
 
-pub read-ranged : (S : State) → Sound S → Ranged (machineOf S)
-unfolding machineOf
-read-ranged S f = record {
-  clearances = λ u h. label-below (S .assigned u);
-  labels = λ o h. label-below (S .granted 0 o);
-  seats = λ s u y h e.
-      let r = seat-read (S .owner s) (S .active s) u y e in
-      let a = r .user in
-      let b = f .owners-known s h in
-      (omega arith, subst (λ (n : ℕ). n < 32) (sym (r .level)) (label-below (S .active s)));
-}
+  -- and these are what each session may open
+  pub read-agrees : Agree S (image.shown m)
+  read-agrees =
+      agree-trans
+      (agree-set-masks (agree-refl S) {f = S .masks} {g = image.shown m .masks} (λ s x hs hx.
+      t s x hs hx ∙ sym (mask-apart S _ s x) ∙ mask-agree read-apart s x hs hx ∙ sym (shown-true m (read-ranged S f) s x hs hx)))
+      read-apart
 
 -- ---- a state that shows the words of a machine state passes the test
 
@@ -169,11 +184,11 @@ module _ (S : State) (m : Machine) (g : Ranged m) (a : Agree S (image.shown m)) 
 pub image-means : ImageMeans
 image-means t w s =
     let S = state t in
-    let f = sound-elim S (sound-state t s) in (
+    let f = sound-ruled S (sound-state t s) in (
       λ i. record {
         machine = machineOf S;
         ranged = read-ranged S f;
-        is-image = shown t (image.shown (machineOf S)) (table-length t (sound-table t s)) (read-agrees S f (λ x o. w _) (λ s x. w _) i);
+        is-image = shown t (image.shown (machineOf S)) (table-length t (sound-table t s)) (read-agrees S f (sound-masks S (sound-state t s)) (λ x o. w _) (λ s x. w _) i);
       },
       λ p. passes S (p .machine) (p .ranged) (subst (λ (l : List ℕ). Agree (state l) (image.shown (p .machine))) (sym (p .is-image)) (state-encode (image.shown (p .machine)))),
     )

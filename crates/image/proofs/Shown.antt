@@ -7,13 +7,15 @@ use lib.Dec.{eqb, ltb}
 use borrow.Author.Tests.{ne-eqb, eqb-true, lt-ltb, ltb-true, ltb-false}
 use Rattle.bits.specs.Words.{_and_, if_then_else_, has, pack}
 use Rattle.bits.specs.Sets.{_without_}
-use Rattle.bits.proofs.Truth.{clash, by-truth, is-false, same-truth, and-intro, and-left, and-right}
+use Rattle.bits.proofs.Truth.{clash, by-truth, is-false, same-truth, and-intro, and-left, and-right, true-and, false-and}
 use Rattle.bits.proofs.Below.{all-intro}
-use Rattle.bits.proofs.Word.{has-pack, pack-lt, pack-none}
+use Rattle.bits.proofs.Word.{has-pack, pack-lt, pack-cong, pack-none}
 use Rattle.table.specs.Authority.{senior, permission, idle, mayActivate, effective}
 use Rattle.table.specs.Seniority.{Linked}
 use Rattle.table.specs.Separation.{setsEmpty}
-use Rattle.table.specs.Sound.{Sound}
+use Rattle.table.specs.Masks.{maskOf, MasksTrue}
+use Rattle.table.specs.Sound.{sound, Ruled}
+use Rattle.table.proofs.Sound.{sound-intro}
 use Rattle.table.proofs.Seniority.{juniors-linked, linked-agree}
 use Rattle.table.proofs.Separation.{separated-elim, empty-separated}
 use Rattle.table.proofs.State.{effective-intro, effective-elim, may-activate-user}
@@ -192,6 +194,14 @@ module _ (m : Machine) where
     effective-shown s x o hs hx ho =
         same-truth (λ a. opens-there s x o hs ho (m .seat s) refl a .1) (opens-back s o hs ho (m .seat s) refl x hx)
 
+    -- so the masks are what each session may open
+    pub shown-true : MasksTrue (shown m)
+    unfolding shown maskOf
+    shown-true s x hs hx =
+        pack-cong 64 (λ o ho. by-truth (ltb x 2)
+        (λ b. true-and _ b ∙ sym (effective-shown s x o hs (ltb-true x 2 b) ho))
+        (λ b. false-and _ b ∙ sym (is-false (λ e. clash (effective-elim (shown m) s x o e .permitted-pair) (permission-is x o ho ∙ b)))))
+
     -- ---- which level is cleared
 
     pub level-authorised : (s u y : ℕ) → s < 32 → m .seat s ≡ at u y → mayActivate (shown m) s y ≡ dominates (m .clearance u) y
@@ -239,8 +249,8 @@ module _ (m : Machine) where
           let hx = ltb-true x 2 (and-left _ _ b) in
           effective-shown s x o hs hx ho ∙ f .openings s o x hs ho hx (and-right (ltb x 2) _ b)
 
-      pub safe-sound : Sound (shown m)
-      safe-sound = record {
+      safe-ruled : Ruled (shown m)
+      safe-ruled = record {
         is-reflexive = λ r h. over-senior (shown m) shown-juniors h h (over-refl r);
         is-transitive = λ r q p hr hq hp a b.
             over-senior (shown m) shown-juniors hr hp (over-trans (junior-of r q hr hq a) (junior-of q p hq hp b));
@@ -258,9 +268,12 @@ module _ (m : Machine) where
           junior-of : (r q : ℕ) → r < 64 → q < 64 → senior (shown m) r q ≡ true → Over r q
           junior-of r q h k a = senior-over (shown m) shown-juniors r q h k a
 
+      pub safe-sound : sound (shown m) ≡ true
+      safe-sound = sound-intro (shown m) safe-ruled shown-true
+
     -- ---- a state with a sound image is safe
 
-    module _ (f : Sound (shown m)) where
+    module _ (f : Ruled (shown m)) where
       pub sound-safe : Safe m
       sound-safe = record {
         cleared = λ s u y hs e.

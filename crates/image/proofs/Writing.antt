@@ -9,11 +9,12 @@ use Rattle.bits.specs.Words.{pack, _with_, tabulate}
 use Rattle.bits.proofs.Truth.{and-false}
 use Rattle.bits.proofs.Word.{pack-none}
 use Rattle.table.specs.Answers.{overlay, clearedFrom}
+use Rattle.table.specs.Reading.{masksAt}
 use Rattle.table.specs.Table.{tableLength}
-use Rattle.table.proofs.Answers.{length-cleared, cleared-before, cleared-after, length-overlay, overlay-at, overlay-before}
+use Rattle.table.proofs.Answers.{length-cleared, cleared-before, cleared-after, length-overlay, overlay-at, overlay-before, overlay-past}
 use Rattle.table.proofs.Encode as encode
 use Rattle.bits.proofs.Tabulate.{length-tabulate, getD-tabulate}
-use Rattle.machine.specs.Machine.{begin}
+use Rattle.machine.specs.Machine.{begin, mayOpen}
 use Rattle.image.specs.Image.{above, clearedRoles, seatRoles, seatOwner, grantedRoles, shown, image}
 use Rattle.image.proofs.Rows.{rows, row-is, masks, mask-is}
 
@@ -112,7 +113,7 @@ module _ (t clearances labels : List ℕ) (whole : length t ≡ tableLength) whe
   granted-words (suc (suc x)) o hx ho = late (136 + 64 * suc (suc x) + o) (omega arith) (omega arith)
 
   pub written-image : t7 ≡ image (begin clearances labels)
-  unfolding shown begin seatOwner seatRoles
+  unfolding shown begin seatOwner seatRoles mayOpen
   written-image =
       encode.shown t7 (shown (begin clearances labels)) (length-overlay t6 1032 rows ∙ long6) (record {
         juniors = λ r h.
@@ -129,4 +130,8 @@ module _ (t clearances labels : List ℕ) (whole : length t ≡ tableLength) whe
             late (712 + 8 * s + x) (omega arith) (omega arith) ∙ sym (pack-none 64 (λ o l. and-false (ltb x 2) refl));
         sets = λ i h. late (968 + i) (omega arith) (omega arith);
         direct = λ r h. put t6 long6 1032 rows r (1032 + r) 64 refl refl h (omega arith) ∙ row-is r h;
+        masks = λ s x h k.
+            let e = long6 in let d = long5 in
+            overlay-past t6 1032 rows (masksAt s x) (omega arith) (omega arith) ∙ cleared-after t5 264 (masksAt s x) (omega arith) (omega arith)
+            ∙ sym (pack-none 64 (λ o l. and-false (ltb x 2) refl));
       })

@@ -3,7 +3,7 @@ use Rattle.bits.specs.Words.{ℕ, zero, suc, _+_, _-_, Bool, not, List, eqb, le
 use Rattle.table.specs.State.{State}
 use Rattle.table.specs.Table.{encode}
 use Rattle.machine.specs.Label.{stands, equalOrAbove}
-use Rattle.machine.specs.Machine.{Machine, Seat, idle, at}
+use Rattle.machine.specs.Machine.{Machine, Seat, idle, at, mayOpen}
 
 -- role r is senior to role q or is q: a read role when its label dominates the other's, a write role the other way round
 unfoldable pub above : ℕ → ℕ → Bool
@@ -43,6 +43,7 @@ shown m = record {
   holds = λ s x. pack 64 (λ o. ltb x 2 and m .held s o x);
   sets = λ i. 0;
   direct = λ r. pack 64 (λ q. not (eqb q r) and above r q);
+  masks = λ s x. pack 64 (λ o. ltb x 2 and mayOpen (m .seat s) (m .label o) x);
 }
 
 abbrev pub image : Machine → List ℕ

@@ -16,7 +16,7 @@ use Rattle.table.specs.Reading.{state}
 use Rattle.sound.specs.Answers.{isSound}
 use Rattle.sound.proofs.Answers.{sound-state, sound-table}
 use Rattle.roles.specs.Request.{Ask, ask, Outcome, refuse, decide, accept}
-use Rattle.roles.specs.Roles.{inRange, decode, known, allowed}
+use Rattle.roles.specs.Roles.{inRange, decode, known, allowed, changed}
 use Rattle.roles.specs.Guard.{roleStep}
 use Rattle.roles.proofs.Codes.{is-code, no-pair}
 use Rattle.roles.proofs.Serving.{served-known, served-unknown}
@@ -72,9 +72,9 @@ role-shows t q s l h =
     let b = no-pair q h in
     by-truth (inRange q)
     (λ r. by-truth (known (state t) (decode q))
-    (λ k. shows-as (e ∙ checked-served allowed t q c r b ∙ served-known allowed t (decode q) k) (shows-decided (allowed (state t) (decode q)) 1 1 _ t))
-    (λ k. shows-as (e ∙ checked-served allowed t q c r b ∙ served-unknown allowed t (decode q) k) refl))
-    (λ r. shows-as (e ∙ checked-argument allowed t q c r) refl)
+    (λ k. shows-as (e ∙ checked-served allowed changed t q c r b ∙ served-known allowed changed t (decode q) k) (shows-decided (allowed (state t) (decode q)) 1 1 _ t))
+    (λ k. shows-as (e ∙ checked-served allowed changed t q c r b ∙ served-unknown allowed changed t (decode q) k) refl))
+    (λ r. shows-as (e ∙ checked-argument allowed changed t q c r) refl)
 
 refused-shows : {o : Outcome (List ℕ)} (t : List ℕ) → o ≡ refuse 16 t → shows (o .answer) ≡ true
 unfolding shows _or_

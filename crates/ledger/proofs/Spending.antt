@@ -13,7 +13,7 @@ use Rattle.table.specs.Table.{isTable}
 use Rattle.table.specs.Reading.{state}
 use Rattle.roles.specs.Request.{Ask, Outcome, refuse, decide, accept}
 use Rattle.roles.specs.Roles.{isCode, inRange, carriesBadPair, decode, known}
-use Rattle.roles.specs.Guard.{allowedSound, soundStep}
+use Rattle.roles.specs.Guard.{allowedSound, changedSound, soundStep}
 use Rattle.roles.proofs.Serving.{served-known, served-unknown}
 use Rattle.roles.proofs.Guarding.{checked-code, checked-argument, checked-pair, sound-step-table, sound-step-short, sound-step-served}
 use Rattle.closure.specs.Closure.{closure, acyclic}
@@ -32,14 +32,14 @@ module _ (t : List ℕ) (q : Ask) where
       by-truth (isCode q)
       (λ c. by-truth (inRange q)
       (λ r. by-truth (carriesBadPair q)
-      (λ b. f 21 (omega arith) (e ∙ checked-pair allowedSound t q c r b))
+      (λ b. f 21 (omega arith) (e ∙ checked-pair allowedSound changedSound t q c r b))
       (λ b.
       let d = sound-step-served t q i c r b in
       by-truth (known (state t) (decode q))
-      (λ k. g _ _ (d ∙ served-known allowedSound t (decode q) k))
-      (λ k. f 17 (omega arith) (d ∙ served-unknown allowedSound t (decode q) k))))
-      (λ r. f 16 (omega arith) (e ∙ checked-argument allowedSound t q c r)))
-      (λ c. f 15 (omega arith) (e ∙ checked-code allowedSound t q c)))
+      (λ k. g _ _ (d ∙ served-known allowedSound changedSound t (decode q) k))
+      (λ k. f 17 (omega arith) (d ∙ served-unknown allowedSound changedSound t (decode q) k))))
+      (λ r. f 16 (omega arith) (e ∙ checked-argument allowedSound changedSound t q c r)))
+      (λ c. f 15 (omega arith) (e ∙ checked-code allowedSound changedSound t q c)))
       (λ i. f 12 (omega arith) (sound-step-short t q i))
 
 -- what an outcome that is a refusal, or a yes or no, spends

@@ -14,29 +14,30 @@ use Rattle.bits.proofs.Tabulate.{getD-tabulate}
 use Rattle.table.specs.State.{State}
 use Rattle.table.specs.Authority.{senior}
 use Rattle.table.specs.Changes.{setSeniority, withDirect}
+use Rattle.table.specs.Masks.{refreshed}
 use Rattle.table.specs.Separation.{staticSetsHold, separated}
-use Rattle.table.specs.Sound.{sound, Sound}
+use Rattle.table.specs.Sound.{ruled, Ruled}
 use Rattle.table.specs.Reading.{directAt, word, state}
 use Rattle.table.specs.Table.{tableLength, isTable, encode}
 use Rattle.table.proofs.Table.{is-table, not-table}
 use Rattle.table.proofs.Agree.{Agree, agree-set-seniority, upd-other, by-upd}
 use Rattle.table.proofs.Encode.{encode-cong, encode-state, state-encode}
 use Rattle.sound.specs.Answers.{sessionsHold}
-use Rattle.sound.proofs.Parts.{unlink-sound, seniority-fits}
+use Rattle.sound.proofs.Parts.{unlink-ruled, seniority-fits}
 use Rattle.links.specs.Links.{linkable, unlinkable, onTable, relinked, mayLink, afterLink, mayUnlink, afterUnlink}
 
 -- ---- on a sound state
 
-module _ (S : State) (f : Sound S) (r q : ℕ) where
+module _ (S : State) (f : Ruled S) (r q : ℕ) where
   pub linkable-is : linkable S r q ≡ (not (eqb r q) and not (senior S q r)) and separated (withDirect S r (S .direct r with q))
   unfolding linkable
   linkable-is =
       sym (and-assoc (not (eqb r q)) _ _)
       ∙ ap (λ (b : Bool). (not (eqb r q) and not (senior S q r)) and b) (sym (seniority-fits S (f .is-separated) _ _))
 
-  pub unlinkable-is : r < 64 → q < 64 → unlinkable S r q ≡ has (S .direct r) q and sound (withDirect S r (S .direct r without q))
+  pub unlinkable-is : r < 64 → q < 64 → unlinkable S r q ≡ has (S .direct r) q and ruled (withDirect S r (S .direct r without q))
   unfolding unlinkable
-  unlinkable-is hr hq = ap (λ (b : Bool). has (S .direct r) q and b) (sym (unlink-sound S f r q hr hq))
+  unlinkable-is hr hq = ap (λ (b : Bool). has (S .direct r) q and b) (sym (unlink-ruled S f r q hr hq))
 
 -- ---- as the code goes about it
 
@@ -84,17 +85,17 @@ module _ (t : List ℕ) (e : length t ≡ tableLength) (r q : ℕ) (hr : r < 64)
   unfolding mayLink
   link-told a = a ∙ on-table t r q e (le-of-suc-le-suc hr) (le-of-suc-le-suc hq)
 
-  pub link-leaves : {t′ : List ℕ} → b ≡ mayLink t r q → t′ ≡ afterLink t r q → t′ ≡ (if b then encode (withDirect (state t) r (state t .direct r with q)) else t)
+  pub link-leaves : {t′ : List ℕ} → b ≡ mayLink t r q → t′ ≡ afterLink t r q → t′ ≡ (if b then encode (refreshed (withDirect (state t) r (state t .direct r with q))) else t)
   unfolding afterLink relinked
-  link-leaves a k = k ∙ ap (λ (c : Bool). if c then encode (withDirect (state t) r (state t .direct r with q)) else t) (sym a)
+  link-leaves a k = k ∙ ap (λ (c : Bool). if c then encode (refreshed (withDirect (state t) r (state t .direct r with q))) else t) (sym a)
 
   pub unlink-told : b ≡ mayUnlink t r q → b ≡ unlinkable (state t) r q
   unfolding mayUnlink
   unlink-told a = a ∙ on-table t r q e (le-of-suc-le-suc hr) (le-of-suc-le-suc hq)
 
-  pub unlink-leaves : {t′ : List ℕ} → b ≡ mayUnlink t r q → t′ ≡ afterUnlink t r q → t′ ≡ (if b then encode (withDirect (state t) r (state t .direct r without q)) else t)
+  pub unlink-leaves : {t′ : List ℕ} → b ≡ mayUnlink t r q → t′ ≡ afterUnlink t r q → t′ ≡ (if b then encode (refreshed (withDirect (state t) r (state t .direct r without q))) else t)
   unfolding afterUnlink relinked
-  unlink-leaves a k = k ∙ ap (λ (c : Bool). if c then encode (withDirect (state t) r (state t .direct r without q)) else t) (sym a)
+  unlink-leaves a k = k ∙ ap (λ (c : Bool). if c then encode (refreshed (withDirect (state t) r (state t .direct r without q))) else t) (sym a)
 
 -- the two clauses of a contract
 module _ {t′ : List ℕ} (t : List ℕ) (r w : ℕ) {b : Bool} where
@@ -102,7 +103,7 @@ module _ {t′ : List ℕ} (t : List ℕ) (r w : ℕ) {b : Bool} where
   unfolding relinked
   answer-no e k = (sym e, k ∙ sym (if-false _ _ e))
 
-  pub answer-yes : b ≡ true → t′ ≡ encode (withDirect (state t) r w) → (true ≡ b) × (t′ ≡ relinked t r w b)
+  pub answer-yes : b ≡ true → t′ ≡ encode (refreshed (withDirect (state t) r w)) → (true ≡ b) × (t′ ≡ relinked t r w b)
   unfolding relinked
   answer-yes e k = (sym e, k ∙ sym (if-true _ _ e))
 

@@ -6,6 +6,7 @@ use Rattle.bits.specs.Sets.{_without_}
 use Rattle.table.specs.State.{State}
 use Rattle.table.specs.Authority.{senior}
 use Rattle.table.specs.Changes.{withDirect}
+use Rattle.table.specs.Masks.{refreshed}
 use Rattle.table.specs.Separation.{staticSetsHold}
 use Rattle.table.specs.Reading.{state}
 use Rattle.table.specs.Table.{isTable, encode}
@@ -25,9 +26,9 @@ unlinkable S r q = has (S .direct r) q and sessionsHold (withDirect S r (S .dire
 unfoldable pub onTable : List ℕ → ℕ → ℕ → Bool → Bool
 onTable t r q answer = isTable t and ltb r 64 and ltb q 64 and answer
 
--- after a yes role r has these direct juniors; after a no the list is as it came
+-- after a yes role r has these direct juniors, and all masks are worked out anew (02, S-6); after a no the list is as it came
 unfoldable pub relinked : List ℕ → ℕ → ℕ → Bool → List ℕ
-relinked t r direct answer = if answer then encode (withDirect (state t) r direct) else t
+relinked t r direct answer = if answer then encode (refreshed (withDirect (state t) r direct)) else t
 
 unfoldable pub mayLink : List ℕ → ℕ → ℕ → Bool
 mayLink t r q = onTable t r q (linkable (state t) r q)

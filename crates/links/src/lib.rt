@@ -1,5 +1,6 @@
 // Change of seniority: a link from a role to a direct junior made, or taken away, on a lent table.
 use table::layout::DIRECT;
+use table::layout::MASKS;
 use table::layout::WORDS;
 ghost use mathlib.Core.Path.{_≡_};
 ghost use Prim.Native.Nat.{_+_, _≤_, _<_};
@@ -66,6 +67,7 @@ pub fn link(t: &mut [u64], r: usize, q: usize) -> bool
     let old = t[DIRECT + r];
     relink(t, r, bits::with(old, q));
     if sound::static_sets_hold(t) {
+        table::overlay(t, MASKS, &masks::all_masks(t));
         return true;
     }
     write_seniority(t, r, old, &rows);
@@ -92,7 +94,9 @@ pub fn unlink(t: &mut [u64], r: usize, q: usize) -> bool
     }
     let rows = words_from(t, 0);
     relink(t, r, bits::without(old, q));
-    if sound::sessions_hold(t) {
+    let masks = masks::all_masks(t);
+    if sound::sessions_hold(t, &masks) {
+        table::overlay(t, MASKS, &masks);
         return true;
     }
     write_seniority(t, r, old, &rows);

@@ -16,27 +16,32 @@ use Rattle.bits.proofs.Members.{each-intro, each-elim}
 use Rattle.table.specs.State.{State}
 use Rattle.table.specs.Authority.{senior, permission, idle, authorised, effective}
 use Rattle.table.specs.Separation.{mask, setsEmpty, separated}
-use Rattle.table.specs.Sound.{rolesSound, sound, Sound}
+use Rattle.table.specs.Masks.{masksTrue, MasksTrue}
+use Rattle.table.specs.Sound.{rolesSound, sound, Ruled}
 use Rattle.table.specs.Reading.{state}
 use Rattle.table.specs.Table.{isTable, encode}
 use Rattle.table.proofs.State.{authorised-intro, authorised-elim, effective-intro, effective-elim}
 use Rattle.table.proofs.Seniority.{linked-junior}
 use Rattle.table.proofs.Separation.{fewer-elim, fewer-intro, empty-separated}
-use Rattle.table.proofs.Sound.{sound-elim, sound-intro, sound-is}
+use Rattle.table.proofs.Masks.{mask-has}
+use Rattle.table.proofs.Claims.{mask-means}
+use Rattle.table.proofs.Sound.{ruled-is, ruled-intro, sound-is, sound-ruled, sound-masks}
 use Rattle.table.proofs.Table.{table-length}
-use Rattle.table.proofs.Agree.{Agree, agree-refl, sound-agree, upd-other, by-upd, upd-own, grid-same, agree-own-holds, agree-own-active, agree-own-assigned, agree-own-granted, agree-own-set, agree-own-direct}
+use Rattle.table.proofs.Agree.{Agree, agree-refl, agree-sym, agree-trans, agree-refreshed, true-refreshed, ruled-agree, upd-other, by-upd, upd-own, grid-same, agree-own-holds, agree-own-active, agree-own-assigned, agree-own-granted, agree-own-set, agree-own-direct}
 use Rattle.table.proofs.Encode.{state-encode, encode-cong, encode-state, write-owner, write-active}
+use Rattle.masks.proofs.Refreshing.{session-shown}
 use Rattle.sound.specs.Answers.{isSound}
 use Rattle.sound.proofs.Answers.{sound-state, sound-table}
 use Rattle.roles.specs.Request.{ask, Outcome}
-use Rattle.roles.specs.Roles.{Request, opens, closes, starts, ends, activates, drops, assigns, deassigns, grants, revokes, separates, links, unlinks, limits, inRange, decode, known, rolesAllow, allowed, changed}
-use Rattle.roles.specs.Guard.{roleStep, allowedSound}
+use Rattle.roles.specs.Roles.{Request, opens, closes, starts, ends, activates, drops, assigns, deassigns, grants, revokes, separates, links, unlinks, limits, inRange, decode, known, rolesAllow, allowed, moved, changed}
+use Rattle.roles.specs.Guard.{roleStep, allowedSound, changedSound}
 use Rattle.roles.specs.Served.{Ranged}
 use Rattle.roles.specs.Source.{Sigma, sigma, EP, opened, closed, tauOpen, tauClose, Same}
-use Rattle.roles.specs.Claims.{Unchanged, after, KeptSound, KeptApart, plainStep, WithoutSets, ServedSame, IsTableOne, OpenIsTableOne, CloseIsTableOne, StartMeans, StartWrites, idempotent, AddedAgain}
+use Rattle.roles.specs.Claims.{Unchanged, after, KeptSound, KeptApart, plainStep, WithoutSets, ServedSame, IsTableOne, OpenIsTableOne, CloseIsTableOne, MasksKept, OpenIsMask, StartMeans, StartWrites, idempotent, AddedAgain}
 use Rattle.roles.proofs.Serving.{decide-yes, decide-no}
 use Rattle.roles.proofs.Codes.{next-code, is-code, is-code-elim, no-pair}
 use Rattle.roles.proofs.Guarding.{role-step-short, role-step-unsound, role-step-sound}
+use Rattle.roles.proofs.Masks.{changed-same}
 use Rattle.roles.proofs.Same.{allowed-same, checked-by, step-same}
 use Rattle.roles.proofs.Steps.{answer-of, state-of, Passed, passed, by-step, decided, in-reach, allowed-yes, yes-allowed, after-yes, step-sound}
 use Rattle.roles.proofs.Requests.{within-intro}
@@ -63,11 +68,11 @@ kept-sound t [] s = s
 kept-sound t (q ∷ qs) s = kept-sound (roleStep t q .state) qs (step-sound t q s)
 
 pub kept-apart : KeptApart
-kept-apart t qs s = sound-elim _ (sound-state _ (kept-sound t qs s)) .is-separated
+kept-apart t qs s = sound-ruled _ (sound-state _ (kept-sound t qs s)) .is-separated
 
 -- all codes but 11 and 12 leave the sets
 same-sets : (S : State) (code a b c : ℕ) → 1 ≤ code → code ≤ 14 → (code ≡ 11 → ⊥) → (code ≡ 12 → ⊥) → changed S (decode (ask code a b c)) .sets ≡ S .sets
-unfolding changed decode
+unfolding changed moved decode
 same-sets S code a b c l h n11 n12 =
     next-code P 0 refl
     (next-code P 1 refl
@@ -94,13 +99,15 @@ pub without-sets : WithoutSets
 unfolding plainStep allowed
 without-sets t q none n11 n12 =
     let S = state t in
-    let same : sound S ≡ rolesSound S = sound-is S ∙ and-true _ (empty-separated S none) in
+    let same : sound S ≡ rolesSound S and masksTrue S =
+    sound-is S ∙ ap (λ (b : Bool). b and masksTrue S) (ruled-is S ∙ and-true _ (empty-separated S none)) in
     by-truth (isTable t)
-    (λ i. by-truth (rolesSound S)
+    (λ i. by-truth (rolesSound S and masksTrue S)
     (λ s.
     role-step-sound t q i (same ∙ s)
-    ∙ checked-by allowed rolesAllow t q (λ c r b.
+    ∙ checked-by allowed rolesAllow changed changed t q (λ c r b.
     and-true _ (empty-separated _ (unused S _ none (same-sets S (q .code) (q .a) (q .b) (q .c) (is-code-elim q c .0) (is-code-elim q c .1) n11 n12))))
+    (λ c r b. refl)
     ∙ sym (past _ _ i ∙ past _ _ s))
     (λ s. role-step-unsound t q i (same ∙ s) ∙ sym (past _ _ i ∙ stopped _ _ s)))
     (λ i. role-step-short t q i ∙ sym (stopped _ _ i))
@@ -181,7 +188,7 @@ module _ (S : State) (s o x : ℕ) where
       elsewhere e n = ap (λ (u : ℕ). has u q) e ∙ sym (ap (λ (d : Bool). f d (has (S .holds p y) q)) n ∙ z _)
 
   opened-sigma : Same (sigma (changed S (opens s o x))) (opened (sigma S) s o x)
-  unfolding sigma changed opened
+  unfolding sigma changed moved opened
   opened-sigma = record {
     m = λ p q y hp hq hy. here-or (S .holds s x with o) _or_ (λ b. false-or b refl) (λ q h. has-with (S .holds s x) o q h) p q y hq;
     user = λ p hp. refl;
@@ -191,7 +198,7 @@ module _ (S : State) (s o x : ℕ) where
   }
 
   closed-sigma : Same (sigma (changed S (closes s o x))) (closed (sigma S) s o x)
-  unfolding sigma changed closed
+  unfolding sigma changed moved closed
   closed-sigma = record {
     m = λ p q y hp hq hy. here-or (S .holds s x without o) (λ b c. not b and c) (λ b. true-and b refl) (λ q h. has-without (S .holds s x) o q h) p q y hq;
     user = λ p hp. refl;
@@ -235,12 +242,14 @@ open-is-table-one t s o x f hs ho hx =
     let p = open-passed t s o x f hs ho hx in
     let S = state t in
     let q = EP-effective S s x o hs hx ho in
-    let same = allowed-same S (sound-elim S (sound-state t f)) (opens s o x) (hs, ho, hx) in
+    let same : allowed S (opens s o x) ≡ effective S s x o =
+    sym (allowed-same S (sound-ruled S (sound-state t f)) (sound-masks S (sound-state t f)) (opens s o x) (hs, ho, hx))
+    ∙ ap (λ (w : ℕ). has w o) (sound-masks S (sound-state t f) s x hs hx) ∙ mask-has S s x o ho in
     by-truth (effective S s x o)
     (λ a.
     yes-one t (changed S (opens s o x)) (opened (sigma S) s o x)
-    (decided t (ask 1 s o x) p ∙ decide-yes 1 1 _ t (sym same ∙ a)) (decide-yes 1 1 _ _ (q ∙ a)) (opened-sigma S s o x))
-    (λ a. no-one t (decided t (ask 1 s o x) p ∙ decide-no 1 1 _ t (sym same ∙ a)) (decide-no 1 1 _ _ (q ∙ a)))
+    (decided t (ask 1 s o x) p ∙ decide-yes 1 1 _ t (same ∙ a)) (decide-yes 1 1 _ _ (q ∙ a)) (opened-sigma S s o x))
+    (λ a. no-one t (decided t (ask 1 s o x) p ∙ decide-no 1 1 _ t (same ∙ a)) (decide-no 1 1 _ _ (q ∙ a)))
 
 pub close-is-table-one : CloseIsTableOne
 unfolding tauClose allowedSound decode
@@ -248,8 +257,21 @@ close-is-table-one t s o x f hs ho hx =
     let S = state t in
     yes-one t (changed S (closes s o x)) (closed (sigma S) s o x)
     (decided t (ask 2 s o x) (close-passed t s o x f hs ho hx)
-    ∙ decide-yes 1 1 _ t (sym (allowed-same S (sound-elim S (sound-state t f)) (closes s o x) (hs, ho, hx))))
+    ∙ decide-yes 1 1 _ t (sym (allowed-same S (sound-ruled S (sound-state t f)) (sound-masks S (sound-state t f)) (closes s o x) (hs, ho, hx))))
     (decide-yes 1 1 _ _ refl) (closed-sigma S s o x)
+
+-- ---- masks
+
+pub masks-kept : MasksKept
+masks-kept t qs s x o f hs hx ho = mask-means (state (after t qs)) s x o (sound-state _ (kept-sound t qs f)) hs hx ho
+
+pub open-is-mask : OpenIsMask
+unfolding decode allowedSound
+open-is-mask t s o x f hs ho hx =
+    let p = open-passed t s o x f hs ho hx in
+    let S = state t in
+    let same = allowed-same S (sound-ruled S (sound-state t f)) (sound-masks S (sound-state t f)) (opens s o x) (hs, ho, hx) in
+    ((λ e. same ∙ yes-allowed t (ask 1 s o x) p e), (λ m. allowed-yes t (ask 1 s o x) p (sym same ∙ m)))
 
 -- ---- a start
 
@@ -261,7 +283,7 @@ start-means t s u roles f hs hu hr =
     let p =
     passed t q f (is-code q (omega arith) (omega arith))
     (within-intro _ 3 s u roles (le-of-suc-le-suc hs) (le-of-suc-le-suc hu) (le-of-suc-le-suc hr)) (no-pair q (omega arith)) refl in
-    let same = allowed-same S (sound-elim S (sound-state t f)) (starts s u roles) (hs, hu) in (
+    let same = allowed-same S (sound-ruled S (sound-state t f)) (sound-masks S (sound-state t f)) (starts s u roles) (hs, hu) in (
       λ e.
           let a = same ∙ yes-allowed t q p e in
           let b = and-right (idle S s) _ a in
@@ -278,36 +300,41 @@ start-means t s u roles f hs hu hr =
     )
 
 pub start-writes : StartWrites
-unfolding decode changed
+unfolding decode changedSound moved
 start-writes t s u roles e =
     let q = ask 3 s u roles in
     after-yes t q e (λ p a z.
-    let hs = in-reach t q p .0 in
-    z ∙ sym (write-active _ (write-owner (state t) (encode-state t (table-length t (p .table))) s _ hs) s roles hs))
+    let h = in-reach t q p in
+    z ∙ sym (encode-cong (changed-same (state t) (sound-masks (state t) (p .is-sound)) (starts s u roles) h))
+    ∙ sym (session-shown _ s (write-active _ (write-owner (state t) (encode-state t (table-length t (p .table))) s _ (h .0)) s roles (h .0)) (h .0)))
 
 -- ---- what is there added, what is absent removed
 
-module _ (S : State) (f : Sound S) (w : Words S) where
+module _ (S : State) (f : Ruled S) (m : MasksTrue S) (w : Words S) where
   -- the changed state is the same state
+  same-moved : (r : Request) → Ranged r → idempotent S r ≡ true → Agree (moved S r) S
+  unfolding moved idempotent
+  same-moved (opens s o x) h i = agree-own-holds S s (λ y l. upd-own (S .holds s) x _ (with-there (S .holds s x) o (w .holds-word s x) i) y)
+  same-moved (closes s o x) h i = agree-own-holds S s (λ y l. upd-own (S .holds s) x _ (without-absent (S .holds s x) o (w .holds-word s x) (not-true _ i)) y)
+  same-moved (starts s u roles) h i = clash i refl
+  same-moved (ends s) h i = clash i refl
+  same-moved (activates s r) h i = agree-own-active S s (with-there (S .active s) r (w .active-word s) i)
+  same-moved (drops s r) h i = agree-own-active S s (without-absent (S .active s) r (w .active-word s) (not-true _ i))
+  same-moved (assigns u r) h i = agree-own-assigned S u (with-there (S .assigned u) r (w .assigned-word u) i)
+  same-moved (deassigns u r) h i = agree-own-assigned S u (without-absent (S .assigned u) r (w .assigned-word u) (not-true _ i))
+  same-moved (grants r x o) h i = agree-own-granted S x o (with-there (S .granted x o) r (w .granted-word x o) i)
+  same-moved (revokes r x o) h i = agree-own-granted S x o (without-absent (S .granted x o) r (w .granted-word x o) (not-true _ i))
+  same-moved (separates n m b) h i = agree-own-set S n (sym (eqb-true _ m (and-left _ _ i))) (sym (eqb-true _ b (and-right (eqb (mask S n) m) _ i)))
+  same-moved (links r q) h i = agree-own-direct S (f .is-linked) r (with-there (S .direct r) q (w .direct-word r) i)
+  same-moved (unlinks r q) h i = clash i refl
+
   same-state : (r : Request) → Ranged r → idempotent S r ≡ true → Agree (changed S r) S
-  unfolding changed idempotent
-  same-state (opens s o x) h i = agree-own-holds S s (λ y l. upd-own (S .holds s) x _ (with-there (S .holds s x) o (w .holds-word s x) i) y)
-  same-state (closes s o x) h i = agree-own-holds S s (λ y l. upd-own (S .holds s) x _ (without-absent (S .holds s x) o (w .holds-word s x) (not-true _ i)) y)
-  same-state (starts s u roles) h i = clash i refl
-  same-state (ends s) h i = clash i refl
-  same-state (activates s r) h i = agree-own-active S s (with-there (S .active s) r (w .active-word s) i)
-  same-state (drops s r) h i = agree-own-active S s (without-absent (S .active s) r (w .active-word s) (not-true _ i))
-  same-state (assigns u r) h i = agree-own-assigned S u (with-there (S .assigned u) r (w .assigned-word u) i)
-  same-state (deassigns u r) h i = agree-own-assigned S u (without-absent (S .assigned u) r (w .assigned-word u) (not-true _ i))
-  same-state (grants r x o) h i = agree-own-granted S x o (with-there (S .granted x o) r (w .granted-word x o) i)
-  same-state (revokes r x o) h i = agree-own-granted S x o (without-absent (S .granted x o) r (w .granted-word x o) (not-true _ i))
-  same-state (separates n m b) h i = agree-own-set S n (sym (eqb-true _ m (and-left _ _ i))) (sym (eqb-true _ b (and-right (eqb (mask S n) m) _ i)))
-  same-state (links r q) h i = agree-own-direct S (f .is-linked) r (with-there (S .direct r) q (w .direct-word r) i)
-  same-state (unlinks r q) h i = clash i refl
+  unfolding changed
+  same-state r h i = agree-trans (agree-refreshed (same-moved r h i)) (agree-sym (true-refreshed S m))
 
   -- and is sound
   sound-again : (r : Request) → Ranged r → idempotent S r ≡ true → rolesSound (changed S r) and separated (changed S r) ≡ true
-  sound-again r h i = sym (sound-is _) ∙ sound-agree (same-state r h i) ∙ sound-intro S f
+  sound-again r h i = sym (ruled-is _) ∙ ruled-agree (same-state r h i) ∙ ruled-intro S f
 
   -- and the answer is yes
   rules-allow : (r : Request) → Ranged r → idempotent S r ≡ true → rolesAllow S r ≡ true
@@ -338,9 +365,10 @@ added-again t q w f c r b k i =
     let S = state t in
     let p = passed t q f c r b k in
     let v : Words S = record { assigned-word = λ u. w _; granted-word = λ x o. w _; active-word = λ s. w _; holds-word = λ s x. w _; direct-word = λ r. w _ } in
-    let g = sound-elim S (sound-state t f) in
-    let d = decided t q p ∙ decide-yes 1 1 _ t (is-allowed S g v (decode q) (in-reach t q p) i) in
+    let g = sound-ruled S (sound-state t f) in
+    let m = sound-masks S (sound-state t f) in
+    let d = decided t q p ∙ decide-yes 1 1 _ t (is-allowed S g m v (decode q) (in-reach t q p) i) in
     record {
       yes-answer = answer-of d;
-      same-table = state-of d ∙ encode-cong (same-state S g v (decode q) (in-reach t q p) i) ∙ sym (encode-state t (table-length t (p .table)));
+      same-table = state-of d ∙ encode-cong (same-state S g m v (decode q) (in-reach t q p) i) ∙ sym (encode-state t (table-length t (p .table)));
     }

@@ -12,31 +12,31 @@ use Rattle.table.specs.Reading.{state}
 use Rattle.table.specs.Table.{tableLength, isTable}
 use Rattle.table.proofs.Table.{is-table}
 use Rattle.roles.specs.Request.{Ask, ask, Outcome, refuse}
-use Rattle.roles.specs.Roles.{Request, isCode, inRange, carriesBadPair, decode, known, allowed}
-use Rattle.roles.specs.Guard.{served, checked, roleStep, allowedSound, soundStep}
+use Rattle.roles.specs.Roles.{Request, isCode, inRange, carriesBadPair, decode, known, allowed, changed}
+use Rattle.roles.specs.Guard.{served, checked, roleStep, allowedSound, changedSound, soundStep}
 use Rattle.roles.specs.Served.{Fit, Served}
 use Rattle.roles.proofs.Codes.{is-code, no-pair, ranged, Paired, paired, known-past}
 use Rattle.roles.proofs.Serving.{decide-yes, decide-no, served-known}
 
-module _ (test : State → Request → Bool) (t : List ℕ) (q : Ask) where
-  pub checked-code : isCode q ≡ false → checked test t q ≡ refuse 15 t
+module _ (test : State → Request → Bool) (change : State → Request → State) (t : List ℕ) (q : Ask) where
+  pub checked-code : isCode q ≡ false → checked test change t q ≡ refuse 15 t
   unfolding checked
   checked-code c = stopped _ _ c
 
-  pub checked-argument : isCode q ≡ true → inRange q ≡ false → checked test t q ≡ refuse 16 t
+  pub checked-argument : isCode q ≡ true → inRange q ≡ false → checked test change t q ≡ refuse 16 t
   unfolding checked
   checked-argument c r = past _ _ c ∙ stopped _ _ r
 
-  pub checked-pair : isCode q ≡ true → inRange q ≡ true → carriesBadPair q ≡ true → checked test t q ≡ refuse 21 t
+  pub checked-pair : isCode q ≡ true → inRange q ≡ true → carriesBadPair q ≡ true → checked test change t q ≡ refuse 21 t
   unfolding checked
   checked-pair c r b = past _ _ c ∙ past _ _ r ∙ if-true _ _ b
 
-  pub checked-served : isCode q ≡ true → inRange q ≡ true → carriesBadPair q ≡ false → checked test t q ≡ served test t (decode q)
+  pub checked-served : isCode q ≡ true → inRange q ≡ true → carriesBadPair q ≡ false → checked test change t q ≡ served test change t (decode q)
   unfolding checked
   checked-served c r b = past _ _ c ∙ past _ _ r ∙ if-false _ _ b
 
 module _ (t : List ℕ) (q : Ask) where
-  pub sound-step-table : isTable t ≡ true → soundStep t q ≡ checked allowedSound t q
+  pub sound-step-table : isTable t ≡ true → soundStep t q ≡ checked allowedSound changedSound t q
   unfolding soundStep
   sound-step-table i = past _ _ i
 
@@ -45,8 +45,8 @@ module _ (t : List ℕ) (q : Ask) where
   sound-step-short i = stopped _ _ i
 
   pub sound-step-served : isTable t ≡ true → isCode q ≡ true → inRange q ≡ true → carriesBadPair q ≡ false
-      → soundStep t q ≡ served allowedSound t (decode q)
-  sound-step-served i c r b = sound-step-table i ∙ checked-served allowedSound t q c r b
+      → soundStep t q ≡ served allowedSound changedSound t (decode q)
+  sound-step-served i c r b = sound-step-table i ∙ checked-served allowedSound changedSound t q c r b
 
   pub role-step-short : isTable t ≡ false → roleStep t q ≡ refuse 12 t
   unfolding roleStep
@@ -56,7 +56,7 @@ module _ (t : List ℕ) (q : Ask) where
   unfolding roleStep
   role-step-unsound i s = past _ _ i ∙ stopped _ _ s
 
-  pub role-step-sound : isTable t ≡ true → sound (state t) ≡ true → roleStep t q ≡ checked allowed t q
+  pub role-step-sound : isTable t ≡ true → sound (state t) ≡ true → roleStep t q ≡ checked allowed changed t q
   unfolding roleStep
   role-step-sound i s = past _ _ i ∙ past _ _ s
 
@@ -77,14 +77,14 @@ pub refused : {t : List ℕ} {n : ℕ} → Comes t n (refuse n t)
 refused = record { answer = refl; table = refl }
 
 module _ {t t′ : List ℕ} {q : Request} (k : known (state t) q ≡ true) {b : Bool} (s : Served t t′ b q) where
-  pub served-yes : b ≡ true → Comes t′ 1 (served allowedSound t q)
+  pub served-yes : b ≡ true → Comes t′ 1 (served allowedSound changedSound t q)
   served-yes e =
-      comes-to (served-known allowedSound t q k ∙ decide-yes 1 1 _ t (sym (s .answer) ∙ e))
+      comes-to (served-known allowedSound changedSound t q k ∙ decide-yes 1 1 _ t (sym (s .answer) ∙ e))
       (record { answer = refl; table = s .table ∙ if-true _ _ e })
 
-  pub served-no : b ≡ false → Comes t′ 0 (served allowedSound t q)
+  pub served-no : b ≡ false → Comes t′ 0 (served allowedSound changedSound t q)
   served-no e =
-      comes-to (served-known allowedSound t q k ∙ decide-no 1 1 _ t (sym (s .answer) ∙ e))
+      comes-to (served-known allowedSound changedSound t q k ∙ decide-no 1 1 _ t (sym (s .answer) ∙ e))
       (record { answer = refl; table = s .table ∙ if-false _ _ e })
 
 -- the two clauses of a contract
@@ -99,7 +99,7 @@ both-to e c = both (comes-to e (record { answer = c .0; table = c .1 }))
 pub record Ready (t : List ℕ) (code a b c : ℕ) : Type 0 where
   pub fit : Fit t (decode (ask code a b c))
   pub pair : Paired (state t) code a b c
-  pub step : soundStep t (ask code a b c) ≡ served allowedSound t (decode (ask code a b c))
+  pub step : soundStep t (ask code a b c) ≡ served allowedSound changedSound t (decode (ask code a b c))
 
 pub ready : (t : List ℕ) (code a b c : ℕ) → length t ≡ tableLength → 1 ≤ code → code ≤ 10 → inRange (ask code a b c) ≡ true → Ready t code a b c
 ready t code a b c e l h i =
@@ -116,7 +116,7 @@ ready t code a b c e l h i =
 pub record ReadyPast (t : List ℕ) (code a b c : ℕ) : Type 0 where
   pub fit : Fit t (decode (ask code a b c))
   pub is-known : known (state t) (decode (ask code a b c)) ≡ true
-  pub step : soundStep t (ask code a b c) ≡ served allowedSound t (decode (ask code a b c))
+  pub step : soundStep t (ask code a b c) ≡ served allowedSound changedSound t (decode (ask code a b c))
 
 pub ready-past : (t : List ℕ) (code a b c : ℕ) → length t ≡ tableLength → 11 ≤ code → code ≤ 14 → inRange (ask code a b c) ≡ true
     → carriesBadPair (ask code a b c) ≡ false → ReadyPast t code a b c

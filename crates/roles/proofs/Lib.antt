@@ -1,6 +1,6 @@
 -- The crate's laws, in reading order.
 pub mod Serving
-pub mod Closing
+pub mod Masks
 pub mod Codes
 pub mod Guarding
 pub mod Same

@@ -19,24 +19,26 @@ use Rattle.table.specs.State.{State}
 use Rattle.table.specs.Authority.{senior}
 use Rattle.table.specs.Changes.{withDirect}
 use Rattle.table.specs.Seniority.{links}
-use Rattle.table.specs.Sound.{rolesSound, Sound}
+use Rattle.table.specs.Masks.{refreshed}
+use Rattle.table.specs.Sound.{rolesSound, Ruled}
 use Rattle.table.specs.Reading.{state}
 use Rattle.table.proofs.Agree.{Agree, authorised-agree, effective-agree, by-upd}
 use Rattle.table.proofs.Encode.{state-encode}
 use Rattle.table.proofs.Keeps.{authorised-more, effective-more}
 use Rattle.table.proofs.Seniority.{link-at, link-more}
 use Rattle.table.proofs.Separation.{separated-elim, separated-intro}
-use Rattle.table.proofs.Sound.{sound-elim, sound-intro, sound-is}
+use Rattle.table.proofs.Masks.{refreshed-true}
+use Rattle.table.proofs.Sound.{ruled-is, ruled-elim, ruled-intro, sound-ruled, masks-separated, masks-ruled}
 use Rattle.sound.specs.Answers.{isSound}
 use Rattle.sound.proofs.Answers.{sound-state}
 use Rattle.roles.specs.Request.{Ask, ask}
-use Rattle.roles.specs.Roles.{unlinks, limits, inRange, decode, known, rolesAllow, allowed, changed}
+use Rattle.roles.specs.Roles.{unlinks, limits, inRange, decode, known, rolesAllow, allowed, moved, changed}
 use Rattle.roles.specs.Guard.{roleStep}
 use Rattle.roles.specs.Claims.{after}
 use Rattle.roles.specs.Seniority.{LinkMeans, UnlinkMeans, LinkTakesNothing, UnlinkKeepsOpenings, noted, recorded, recordedLinks, SeniorityReached}
 use Rattle.roles.proofs.Claims.{kept-sound}
 use Rattle.roles.proofs.Codes.{next-code, is-code, is-code-elim, no-pair-past}
-use Rattle.roles.proofs.Keeping.{changed-sound}
+use Rattle.roles.proofs.Keeping.{moved-ruled}
 use Rattle.roles.proofs.Requests.{within-intro}
 use Rattle.roles.proofs.Serving.{decide-yes, decide-no}
 use Rattle.roles.proofs.Steps.{answer-of, state-of, Passed, passed, by-step, decided, in-reach, allowed-yes, yes-allowed, after-yes}
@@ -57,27 +59,27 @@ module _ (t : List ℕ) (r q : ℕ) (f : isSound t ≡ true) (hr : r < 64) (hq :
       passed t a f (is-code a (omega arith) (omega arith)) (within-intro _ 14 r q 0 (le-of-suc-le-suc hr) (le-of-suc-le-suc hq) (omega arith)) (no-pair-past a (omega arith)) refl
 
 pub link-means : LinkMeans
-unfolding decode allowed rolesAllow changed
+unfolding decode allowed rolesAllow changed moved
 link-means t r q f hr hq =
     let S = state t in
     let a = ask 13 r q 0 in
     let p = link-passed t r q f hr hq in
-    let reached = sound-elim S (sound-state t f) .is-linked .is-reached q r hq hr in (
+    let reached = sound-ruled S (sound-state t f) .is-linked .is-reached q r hq hr in (
       λ e.
           let y = yes-allowed t a p e in
           let b = and-left _ _ y in
           record {
             other = eqb-false r q (not-true _ (and-left _ _ b));
             no-way-back = λ k. clash (reached .1 k) (not-true _ (and-right (not (eqb r q)) _ b));
-            breaks-none = separated-elim _ (and-right _ _ y);
+            breaks-none = separated-elim _ (sym (masks-separated _ _) ∙ and-right _ _ y);
           },
       λ m. allowed-yes t a p
           (and-intro (and-intro (not-intro (ne-eqb r q (m .other))) (not-intro (is-false (λ k. m .no-way-back (reached .0 k)))))
-          (separated-intro _ (m .breaks-none))),
+          (masks-separated _ _ ∙ separated-intro _ (m .breaks-none))),
     )
 
 pub unlink-means : UnlinkMeans
-unfolding decode allowed rolesAllow changed
+unfolding decode allowed rolesAllow changed moved
 unlink-means t r q f hr hq =
     let S = state t in
     let a = ask 14 r q 0 in
@@ -87,38 +89,41 @@ unlink-means t r q f hr hq =
           let b = and-left _ _ y in
           record {
             there = and-left _ _ b;
-            stays-sound = sound-elim _ (sound-is _ ∙ and-intro (and-right (has (S .direct r) q) _ b) (and-right _ _ y));
+            stays-sound = record {
+              is-ruled = ruled-elim _ (ruled-is _ ∙ and-intro (and-right (has (S .direct r) q) _ b) (and-right _ _ y));
+              masks-true = refreshed-true _;
+            };
           },
       λ m.
-          let s = sym (sound-is (withDirect S r (S .direct r without q))) ∙ sound-intro _ (m .stays-sound) in
-          allowed-yes t a p (and-intro (and-intro (m .there) (and-left _ _ s)) (and-right (rolesSound (withDirect S r (S .direct r without q))) _ s)),
+          let s = sym (ruled-is _) ∙ ruled-intro _ (m .stays-sound .is-ruled) in
+          allowed-yes t a p (and-intro (and-intro (m .there) (and-left _ _ s)) (and-right (rolesSound (refreshed (withDirect S r (S .direct r without q)))) _ s)),
     )
 
 -- ---- what a yes leaves
 
 pub link-takes-nothing : LinkTakesNothing
-unfolding decode changed
+unfolding decode changed moved
 link-takes-nothing t r q c e =
     after-yes t (ask 13 r q c) e (λ p y z.
     let S = state t in
-    let S′ = withDirect S r (S .direct r with q) in
+    let S′ = refreshed (withDirect S r (S .direct r with q)) in
     let h = in-reach t (ask 13 r q c) p in
     let now : Agree (state (roleStep t (ask 13 r q c) .state)) S′ = rw z (state-encode S′) in
     let grow : (a b : ℕ) → a < 64 → b < 64 → senior S a b ≡ true → senior S′ a b ≡ true =
-    link-more (sound-elim S (p .is-sound) .is-linked) r q (h .0) (h .1) in
+    link-more (sound-ruled S (p .is-sound) .is-linked) r q (h .0) (h .1) in
     record {
       authorised-stay = λ u v hu hv k. authorised-agree now u v hu ∙ authorised-more S S′ grow u v hv (λ a ha m. m) k;
       effective-stay = λ s x o hs hx ho k. effective-agree now s x o hs hx ho ∙ effective-more S S′ grow s x o refl (λ a ha m. m) (λ a ha m. m) k;
     })
 
 pub unlink-keeps-openings : UnlinkKeepsOpenings
-unfolding decode changed
+unfolding decode changed moved
 unlink-keeps-openings t r q c s x o e hs hx ho m =
     after-yes t (ask 14 r q c) e (λ p y z.
     let S = state t in
-    let S′ = withDirect S r (S .direct r without q) in
+    let S′ = refreshed (withDirect S r (S .direct r without q)) in
     let now : Agree (state (roleStep t (ask 14 r q c) .state)) S′ = rw z (state-encode S′) in
-    let g : Sound S′ = changed-sound S (sound-elim S (p .is-sound)) (unlinks r q) (in-reach t (ask 14 r q c) p) (p .is-known) y in
+    let g : Ruled S′ = masks-ruled _ (moved-ruled S (sound-ruled S (p .is-sound)) (unlinks r q) (in-reach t (ask 14 r q c) p) (p .is-known) y) in
     record {
       still-held = ap (λ (w : ℕ). has w o) (now .holds s x hs hx) ∙ m;
       still-effective = effective-agree now s x o hs hx ho ∙ g .openings-effective s x o hs hx ho m;
@@ -174,7 +179,7 @@ module _ (S : State) (a b c r p : ℕ) (hp : p < 64) where
       (has-without (S .direct a) b p hp ∙ by-truth (eqb p b) (λ z. false-and _ (ap not z) ∙ sym (if-true _ _ z)) (λ z. true-and _ (not-intro z) ∙ sym (if-false _ _ z)))
 
   changed-noted : (code : ℕ) → 1 ≤ code → code ≤ 14 → has (changed S (decode (ask code a b c)) .direct r) p ≡ noted (ask code a b c) 1 old r p
-  unfolding decode changed
+  unfolding decode changed moved
   changed-noted code l h =
       next-code P 0 (other 1 refl refl)
       (next-code P 1 (other 2 refl refl)
@@ -238,7 +243,7 @@ seniority-reached t qs r q f hr hq = (λ e. more _ _ forth hr (reached .0 e), λ
     S = state (after t qs)
 
     reached : senior S r q ≡ true ↔ Reaches (links (S .direct)) r q
-    reached = sound-elim S (sound-state (after t qs) (kept-sound t qs f)) .is-linked .is-reached r q hr hq
+    reached = sound-ruled S (sound-state (after t qs) (kept-sound t qs f)) .is-linked .is-reached r q hr hq
 
     noted-there : (a x : ℕ) → a < 64 → x < 64 → has (getD (recordedLinks t qs) a 0) x ≡ has (getD (links (S .direct)) a 0) x
     noted-there a x ha hx =

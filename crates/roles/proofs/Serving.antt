@@ -10,8 +10,8 @@ use Rattle.table.specs.State.{State}
 use Rattle.table.specs.Reading.{state}
 use Rattle.table.specs.Table.{encode}
 use Rattle.roles.specs.Request.{refuse, decide}
-use Rattle.roles.specs.Roles.{Request, known, changed}
-use Rattle.roles.specs.Guard.{served, allowedSound}
+use Rattle.roles.specs.Roles.{Request, known}
+use Rattle.roles.specs.Guard.{served, allowedSound, changedSound}
 use Rattle.roles.specs.Served.{Served}
 
 -- ---- yes, no and a refusal
@@ -25,29 +25,24 @@ module _ {S : Type 0} {b : Bool} (y n : ℕ) (new old : S) where
   unfolding decide
   decide-no e = rw (e, decide)
 
-module _ (test : State → Request → Bool) (t : List ℕ) (q : Request) where
-  pub served-known : known (state t) q ≡ true → served test t q ≡ decide (test (state t) q) 1 1 (encode (changed (state t) q)) t
+module _ (test : State → Request → Bool) (change : State → Request → State) (t : List ℕ) (q : Request) where
+  pub served-known : known (state t) q ≡ true → served test change t q ≡ decide (test (state t) q) 1 1 (encode (change (state t) q)) t
   unfolding served
   served-known k = past _ _ k
 
-  pub served-unknown : known (state t) q ≡ false → served test t q ≡ refuse 17 t
+  pub served-unknown : known (state t) q ≡ false → served test change t q ≡ refuse 17 t
   unfolding served
   served-unknown k = stopped _ _ k
 
 -- ---- as the code answers
 
 module _ {t t′ : List ℕ} {q : Request} where
-  pub serve-yes : allowedSound (state t) q ≡ true → t′ ≡ encode (changed (state t) q) → Served t t′ true q
+  pub serve-yes : allowedSound (state t) q ≡ true → t′ ≡ encode (changedSound (state t) q) → Served t t′ true q
   serve-yes a e = record { answer = sym a; table = e ∙ sym (if-true _ _ refl) }
 
   pub serve-no : allowedSound (state t) q ≡ false → t′ ≡ t → Served t t′ false q
   serve-no a e = record { answer = sym a; table = e ∙ sym (if-false _ _ refl) }
 
--- a word is written and the table tested: it stays so after a yes, and the word is put back after a no
-module _ (t : List ℕ) (q : Request) (i v : ℕ) {b : Bool}
-    (e : set t i v ≡ encode (changed (state t) q)) (told : b ≡ allowedSound (state t) q) where
-  pub tried-yes : b ≡ true → Served t (set t i v) true q
-  tried-yes p = serve-yes (sym told ∙ p) e
-
-  pub tried-no : b ≡ false → Served t (set (set t i v) i (getD t i 0)) false q
-  tried-no p = serve-no (sym told ∙ p) (set-set t i v (getD t i 0) ∙ set-getD t i 0)
+-- a word that was written is put back
+pub put-back : (t : List ℕ) (q : Request) (i v : ℕ) → allowedSound (state t) q ≡ false → Served t (set (set t i v) i (getD t i 0)) false q
+put-back t q i v a = serve-no a (set-set t i v (getD t i 0) ∙ set-getD t i 0)

@@ -10,16 +10,17 @@ use Rattle.bits.proofs.Truth.{by-truth, and-assoc}
 use Rattle.bits.proofs.Members.{each-cong}
 use Rattle.table.specs.State.{State}
 use Rattle.table.specs.Separation.{separated}
-use Rattle.table.specs.Sound.{rolesSound, sound, Sound}
+use Rattle.table.specs.Masks.{MasksTrue}
+use Rattle.table.specs.Sound.{rolesSound, sound, Ruled}
 use Rattle.table.specs.Table.{isTable, encode}
 use Rattle.table.specs.Reading.{state}
-use Rattle.table.proofs.Sound.{sound-elim, sound-intro, sound-is}
-use Rattle.table.proofs.Agree.{Agree, agree-sym, senior-agree, idle-agree, permission-agree, authorised-agree, may-activate-agree, effective-agree, sound-agree, agree-sound, upd-agree, agree-with-holds, agree-with-active, agree-with-owner, agree-with-assigned, agree-with-granted, agree-with-set, agree-with-direct, separated-agree}
+use Rattle.table.proofs.Sound.{ruled-is, sound-ruled, sound-intro}
+use Rattle.table.proofs.Agree.{Agree, agree-sym, senior-agree, idle-agree, permission-agree, authorised-agree, may-activate-agree, effective-agree, ruled-agree, agree-ruled, agree-refreshed, upd-agree, agree-with-holds, agree-with-active, agree-with-owner, agree-with-assigned, agree-with-granted, agree-with-set, agree-with-direct, separated-agree}
 use Rattle.table.proofs.Encode.{state-encode, encode-cong}
 use Rattle.sound.specs.Answers.{isSound}
 use Rattle.sound.proofs.Answers.{sound-state, sound-table, shown-sound}
 use Rattle.roles.specs.Request.{Ask, Outcome, refuse, decide}
-use Rattle.roles.specs.Roles.{Request, opens, closes, starts, ends, activates, drops, assigns, deassigns, grants, revokes, separates, links, unlinks, isCode, inRange, carriesBadPair, decode, known, rolesAllow, allowed, changed}
+use Rattle.roles.specs.Roles.{Request, opens, closes, starts, ends, activates, drops, assigns, deassigns, grants, revokes, separates, links, unlinks, isCode, inRange, carriesBadPair, decode, known, rolesAllow, allowed, moved, changed}
 use Rattle.roles.specs.Guard.{roleStep}
 use Rattle.roles.specs.Served.{Ranged}
 use Rattle.roles.proofs.Serving.{decide-yes, decide-no, served-known, served-unknown}
@@ -57,20 +58,20 @@ module _ (t : List ℕ) (q : Ask) where
       by-truth (isCode q)
       (λ c. by-truth (inRange q)
       (λ r. by-truth (carriesBadPair q)
-      (λ b. f 21 (omega arith) (e ∙ checked-pair allowed t q c r b))
+      (λ b. f 21 (omega arith) (e ∙ checked-pair allowed changed t q c r b))
       (λ b. by-truth (known (state t) (decode q))
       (λ k. g (record { table = i; is-sound = s; code = c; range = r; pair = b; is-known = k }))
-      (λ k. f 17 (omega arith) (e ∙ checked-served allowed t q c r b ∙ served-unknown allowed t (decode q) k))))
-      (λ r. f 16 (omega arith) (e ∙ checked-argument allowed t q c r)))
-      (λ c. f 15 (omega arith) (e ∙ checked-code allowed t q c)))
+      (λ k. f 17 (omega arith) (e ∙ checked-served allowed changed t q c r b ∙ served-unknown allowed changed t (decode q) k))))
+      (λ r. f 16 (omega arith) (e ∙ checked-argument allowed changed t q c r)))
+      (λ c. f 15 (omega arith) (e ∙ checked-code allowed changed t q c)))
       (λ s. f 13 (omega arith) (role-step-unsound t q i s)))
       (λ i. f 12 (omega arith) (role-step-short t q i))
 
   pub decided : Passed t q → roleStep t q ≡ decide (allowed (state t) (decode q)) 1 1 (encode (changed (state t) (decode q))) t
   decided p =
       role-step-sound t q (p .table) (p .is-sound)
-      ∙ checked-served allowed t q (p .code) (p .range) (p .pair)
-      ∙ served-known allowed t (decode q) (p .is-known)
+      ∙ checked-served allowed changed t q (p .code) (p .range) (p .pair)
+      ∙ served-known allowed changed t (decode q) (p .is-known)
 
   pub allowed-yes : Passed t q → allowed (state t) (decode q) ≡ true → roleStep t q .answer ≡ 1
   allowed-yes p a = answer-of (decided p ∙ decide-yes 1 1 _ t a)
@@ -99,36 +100,40 @@ module _ (t : List ℕ) (q : Ask) where
       (λ p. by-truth (allowed (state t) (decode q))
       (λ a.
       shown-sound (changed (state t) (decode q)) (state-of (decided p ∙ decide-yes 1 1 _ t a))
-      ∙ sound-intro _ (changed-sound (state t) (sound-elim (state t) (p .is-sound)) (decode q) (in-reach p) (p .is-known) a))
+      ∙ changed-sound (state t) (sound-ruled (state t) (p .is-sound)) (decode q) (in-reach p) (p .is-known) a)
       (λ a. ap (λ (o : Outcome (List ℕ)). isSound (o .state)) (decided p ∙ decide-no 1 1 _ t a) ∙ s))
 
 -- ---- on the table of a state
 
 module _ {S S′ : State} (a : Agree S S′) where
+  moved-agree : (r : Request) → Ranged r → Agree (moved S r) (moved S′ r)
+  unfolding moved
+  moved-agree (opens s o x) h = agree-with-holds a s (λ y l. upd-agree (S .holds s) (S′ .holds s) x y (ap (λ (w : ℕ). w with o) (a .holds s x (h .0) (h .2))) (a .holds s y (h .0) l))
+  moved-agree (closes s o x) h = agree-with-holds a s (λ y l. upd-agree (S .holds s) (S′ .holds s) x y (ap (λ (w : ℕ). w without o) (a .holds s x (h .0) (h .2))) (a .holds s y (h .0) l))
+  moved-agree (starts s u roles) h = agree-with-active (agree-with-owner a s refl) s refl
+  moved-agree (ends s) h = agree-with-holds (agree-with-active (agree-with-owner a s refl) s refl) s (λ x l. refl)
+  moved-agree (activates s r) h = agree-with-active a s (ap (λ (w : ℕ). w with r) (a .active s (h .0)))
+  moved-agree (drops s r) h = agree-with-active a s (ap (λ (w : ℕ). w without r) (a .active s (h .0)))
+  moved-agree (assigns u r) h = agree-with-assigned a u (ap (λ (w : ℕ). w with r) (a .assigned u (h .0)))
+  moved-agree (deassigns u r) h = agree-with-assigned a u (ap (λ (w : ℕ). w without r) (a .assigned u (h .0)))
+  moved-agree (grants r x o) h = agree-with-granted a x o (ap (λ (w : ℕ). w with r) (a .granted x o (h .1) (h .2)))
+  moved-agree (revokes r x o) h = agree-with-granted a x o (ap (λ (w : ℕ). w without r) (a .granted x o (h .1) (h .2)))
+  moved-agree (separates n m b) h = agree-with-set a n refl refl
+  moved-agree (links r q) h = agree-with-direct a r (ap (λ (w : ℕ). w with q) (a .direct r (h .0)))
+  moved-agree (unlinks r q) h = agree-with-direct a r (ap (λ (w : ℕ). w without q) (a .direct r (h .0)))
+
   changed-agree : (r : Request) → Ranged r → Agree (changed S r) (changed S′ r)
   unfolding changed
-  changed-agree (opens s o x) h = agree-with-holds a s (λ y l. upd-agree (S .holds s) (S′ .holds s) x y (ap (λ (w : ℕ). w with o) (a .holds s x (h .0) (h .2))) (a .holds s y (h .0) l))
-  changed-agree (closes s o x) h = agree-with-holds a s (λ y l. upd-agree (S .holds s) (S′ .holds s) x y (ap (λ (w : ℕ). w without o) (a .holds s x (h .0) (h .2))) (a .holds s y (h .0) l))
-  changed-agree (starts s u roles) h = agree-with-active (agree-with-owner a s refl) s refl
-  changed-agree (ends s) h = agree-with-holds (agree-with-active (agree-with-owner a s refl) s refl) s (λ x l. refl)
-  changed-agree (activates s r) h = agree-with-active a s (ap (λ (w : ℕ). w with r) (a .active s (h .0)))
-  changed-agree (drops s r) h = agree-with-active a s (ap (λ (w : ℕ). w without r) (a .active s (h .0)))
-  changed-agree (assigns u r) h = agree-with-assigned a u (ap (λ (w : ℕ). w with r) (a .assigned u (h .0)))
-  changed-agree (deassigns u r) h = agree-with-assigned a u (ap (λ (w : ℕ). w without r) (a .assigned u (h .0)))
-  changed-agree (grants r x o) h = agree-with-granted a x o (ap (λ (w : ℕ). w with r) (a .granted x o (h .1) (h .2)))
-  changed-agree (revokes r x o) h = agree-with-granted a x o (ap (λ (w : ℕ). w without r) (a .granted x o (h .1) (h .2)))
-  changed-agree (separates n m b) h = agree-with-set a n refl refl
-  changed-agree (links r q) h = agree-with-direct a r (ap (λ (w : ℕ). w with q) (a .direct r (h .0)))
-  changed-agree (unlinks r q) h = agree-with-direct a r (ap (λ (w : ℕ). w without q) (a .direct r (h .0)))
+  changed-agree r h = agree-refreshed (moved-agree r h)
 
   apart : (r : Request) → Ranged r → separated (changed S r) ≡ separated (changed S′ r)
   apart r h = separated-agree (changed-agree r h)
 
   -- where the answer hangs on the changed state being sound
   sound-after : (r : Request) → Ranged r → rolesSound (changed S r) and separated (changed S r) ≡ rolesSound (changed S′ r) and separated (changed S′ r)
-  sound-after r h = sym (sound-is _) ∙ sound-agree (changed-agree r h) ∙ sound-is _
+  sound-after r h = sym (ruled-is _) ∙ ruled-agree (changed-agree r h) ∙ ruled-is _
 
-  allowed-agree : Sound S → (r : Request) → Ranged r → allowed S r ≡ allowed S′ r
+  allowed-agree : Ruled S → (r : Request) → Ranged r → allowed S r ≡ allowed S′ r
   unfolding allowed rolesAllow
   allowed-agree f (opens s o x) h = ap₂ _and_ (effective-agree a s x o (h .0) (h .2) (h .1)) (apart (opens s o x) h)
   allowed-agree f (closes s o x) h = ap₂ _and_ refl (apart (closes s o x) h)
@@ -166,9 +171,9 @@ module _ {S S′ : State} (a : Agree S S′) where
 
 -- a request on the table of a sound state, with a code and arguments in range and no pair of error 21, that names a permission
 -- where it grants or revokes
-module _ (S : State) (f : Sound S) (q : Ask) (c : isCode q ≡ true) (r : inRange q ≡ true) (b : carriesBadPair q ≡ false) where
+module _ (S : State) (f : Ruled S) (m : MasksTrue S) (q : Ask) (c : isCode q ≡ true) (r : inRange q ≡ true) (b : carriesBadPair q ≡ false) where
   table-sound : isSound (encode S) ≡ true
-  table-sound = shown-sound S refl ∙ sound-intro S f
+  table-sound = shown-sound S refl ∙ sound-intro S f m
 
   pub reach : Ranged (decode q)
   reach = let k = is-code-elim q c in ranged (q .code) (q .a) (q .b) (q .c) (k .0) (k .1) r b
@@ -178,4 +183,4 @@ module _ (S : State) (f : Sound S) (q : Ask) (c : isCode q ≡ true) (r : inRang
       let a = state-encode S in
       decided (encode S) q (passed (encode S) q table-sound c r b (known-agree a (decode q) reach ∙ k))
       ∙ ap₂ (λ (d : Bool) (t : List ℕ). decide d 1 1 t (encode S))
-      (allowed-agree a (agree-sound (agree-sym a) f) (decode q) reach) (encode-cong (changed-agree a (decode q) reach))
+      (allowed-agree a (agree-ruled (agree-sym a) f) (decode q) reach) (encode-cong (changed-agree a (decode q) reach))

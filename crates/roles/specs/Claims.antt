@@ -3,14 +3,16 @@ use mathlib.Core.Logic.{_↔_}
 use lib.ListN.{set}
 use Rattle.bits.specs.Words.{ℕ, suc, _+_, _^_, _<_, _≡_, Bool, true, false, not, List, [], _∷_, eqb, _and_, if_then_else_, has}
 use Rattle.table.specs.State.{State}
-use Rattle.table.specs.Authority.{senior, permission, idle, Authorised}
+use Rattle.table.specs.Authority.{senior, permission, idle, Authorised, Effective}
 use Rattle.table.specs.Separation.{mask, bound, setsEmpty, Fewer, Separated}
+use Rattle.table.specs.Masks.{masksTrue}
 use Rattle.table.specs.Sound.{rolesSound}
 use Rattle.table.specs.Table.{isTable}
 use Rattle.table.specs.Reading.{word, ownerAt, activeAt, state}
+use Rattle.masks.specs.Answers.{sessionRefreshed}
 use Rattle.sound.specs.Answers.{isSound}
 use Rattle.roles.specs.Request.{Ask, ask, Outcome, refuse}
-use Rattle.roles.specs.Roles.{Request, opens, closes, starts, ends, activates, drops, assigns, deassigns, grants, revokes, separates, links, unlinks, isCode, inRange, carriesBadPair, decode, rolesAllow, known}
+use Rattle.roles.specs.Roles.{Request, opens, closes, starts, ends, activates, drops, assigns, deassigns, grants, revokes, separates, links, unlinks, isCode, inRange, carriesBadPair, decode, rolesAllow, known, changed}
 use Rattle.roles.specs.Guard.{checked, roleStep, soundStep}
 use Rattle.roles.specs.Source.{Sigma, sigma, tauOpen, tauClose, Same}
 
@@ -32,12 +34,12 @@ abbrev pub KeptApart : Type 0
 KeptApart = (t : List ℕ) (qs : List Ask) → isSound t ≡ true → Separated (state (after t qs))
 
 -- Do the sets change anything where none is in use? Not one answer or word, of a list of any length: there every request but codes
--- 11 and 12 comes to what it comes to in the guard of 01 with the links of 02, S-5, which knows no sets.
+-- 11 and 12 comes to what it comes to in the guard of 01 with the links and the masks of 02, which knows no sets.
 unfoldable pub plainStep : List ℕ → Ask → Outcome (List ℕ)
 plainStep t q =
     if not (isTable t) then refuse 12 t else
-    if not (rolesSound (state t)) then refuse 13 t else
-    checked rolesAllow t q
+    if not (rolesSound (state t) and masksTrue (state t)) then refuse 13 t else
+    checked rolesAllow changed t q
 
 abbrev pub WithoutSets : Type 0
 WithoutSets = (t : List ℕ) (q : Ask) → setsEmpty (state t) ≡ true → (q .code ≡ 11 → ⊥) → (q .code ≡ 12 → ⊥) → roleStep t q ≡ plainStep t q
@@ -62,6 +64,19 @@ CloseIsTableOne =
     (t : List ℕ) (s o x : ℕ) → isSound t ≡ true → s < 32 → o < 64 → x < 8
     → IsTableOne t (roleStep t (ask 2 s o x)) (tauClose (sigma (state t)) s o x)
 
+-- What does a mask of a table in use say? After any list of requests from a sound table its members are exactly the objects that are
+-- effective for the session in the mode (02, S-6) ...
+abbrev pub MasksKept : Type 0
+MasksKept =
+    (t : List ℕ) (qs : List Ask) (s x o : ℕ) → isSound t ≡ true → s < 32 → x < 8 → o < 64
+    → has (state (after t qs) .masks s x) o ≡ true ↔ Effective (state (after t qs)) s x o
+
+-- ... and those to which an opening is answered yes.
+abbrev pub OpenIsMask : Type 0
+OpenIsMask =
+    (t : List ℕ) (s o x : ℕ) → isSound t ≡ true → s < 32 → o < 64 → x < 8
+    → roleStep t (ask 1 s o x) .answer ≡ 1 ↔ has (state t .masks s x) o ≡ true
+
 -- When is a start answered yes? Where the session is idle, every role of the mask is authorised for the user (02, S-1), and the
 -- mask includes fewer roles of each dynamic set than its bound (02, S-4).
 pub record MayStart (S : State) (s u roles : ℕ) : Type 0 where
@@ -74,11 +89,12 @@ StartMeans =
     (t : List ℕ) (s u roles : ℕ) → isSound t ≡ true → s < 32 → u < 64 → roles < 2 ^ 64
     → roleStep t (ask 3 s u roles) .answer ≡ 1 ↔ MayStart (state t) s u roles
 
--- What does a yes to it write? The session's user and its active roles, exactly those of the mask, and no other word.
+-- What does a yes to it write? The session's user and its active roles, exactly those of the mask, its eight masks of what it may
+-- open, and no other word.
 abbrev pub StartWrites : Type 0
 StartWrites =
     (t : List ℕ) (s u roles : ℕ) → roleStep t (ask 3 s u roles) .answer ≡ 1
-    → roleStep t (ask 3 s u roles) .state ≡ set (set t (ownerAt s) (suc u)) (activeAt s) roles
+    → roleStep t (ask 3 s u roles) .state ≡ sessionRefreshed (set (set t (ownerAt s) (suc u)) (activeAt s) roles) s
 
 -- what the request adds is there, or what it removes is absent; an absent link is no to code 14 (02, S-5)
 unfoldable pub idempotent : State → Request → Bool

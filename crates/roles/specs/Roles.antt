@@ -6,6 +6,7 @@ use Rattle.bits.specs.Sets.{each, _without_}
 use Rattle.table.specs.State.{State}
 use Rattle.table.specs.Authority.{senior, permission, idle, authorised, mayActivate, effective}
 use Rattle.table.specs.Changes.{withAssigned, withGranted, withOwner, withActive, withHolds, withSet, withDirect}
+use Rattle.table.specs.Masks.{refreshed}
 use Rattle.table.specs.Separation.{badPair, separated}
 use Rattle.table.specs.Sound.{rolesSound}
 use Rattle.roles.specs.Request.{Ask, within}
@@ -77,21 +78,26 @@ decode q =
 
 -- ---- what each request does
 
--- the state after a yes
+-- the state after a yes, but for the masks
+unfoldable pub moved : State → Request → State
+moved S (opens s o x) = withHolds S s (upd (S .holds s) x (S .holds s x with o))
+moved S (closes s o x) = withHolds S s (upd (S .holds s) x (S .holds s x without o))
+moved S (starts s u roles) = withActive (withOwner S s (suc u)) s roles
+moved S (ends s) = withHolds (withActive (withOwner S s 0) s 0) s (λ x. 0)
+moved S (activates s r) = withActive S s (S .active s with r)
+moved S (drops s r) = withActive S s (S .active s without r)
+moved S (assigns u r) = withAssigned S u (S .assigned u with r)
+moved S (deassigns u r) = withAssigned S u (S .assigned u without r)
+moved S (grants r x o) = withGranted S x o (S .granted x o with r)
+moved S (revokes r x o) = withGranted S x o (S .granted x o without r)
+moved S (separates n roles bound) = withSet S n roles bound
+moved S (links r q) = withDirect S r (S .direct r with q)
+moved S (unlinks r q) = withDirect S r (S .direct r without q)
+
+-- 02, S-6: a yes leaves all masks true, and "where a yes hangs on a changed table being sound, that table is taken with its masks
+-- worked out anew"
 unfoldable pub changed : State → Request → State
-changed S (opens s o x) = withHolds S s (upd (S .holds s) x (S .holds s x with o))
-changed S (closes s o x) = withHolds S s (upd (S .holds s) x (S .holds s x without o))
-changed S (starts s u roles) = withActive (withOwner S s (suc u)) s roles
-changed S (ends s) = withHolds (withActive (withOwner S s 0) s 0) s (λ x. 0)
-changed S (activates s r) = withActive S s (S .active s with r)
-changed S (drops s r) = withActive S s (S .active s without r)
-changed S (assigns u r) = withAssigned S u (S .assigned u with r)
-changed S (deassigns u r) = withAssigned S u (S .assigned u without r)
-changed S (grants r x o) = withGranted S x o (S .granted x o with r)
-changed S (revokes r x o) = withGranted S x o (S .granted x o without r)
-changed S (separates n roles bound) = withSet S n roles bound
-changed S (links r q) = withDirect S r (S .direct r with q)
-changed S (unlinks r q) = withDirect S r (S .direct r without q)
+changed S r = refreshed (moved S r)
 
 -- the answer is yes, by the rules of 01 and of 02, S-5, and where no set is looked at
 unfoldable pub rolesAllow : State → Request → Bool

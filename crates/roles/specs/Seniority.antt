@@ -8,6 +8,7 @@ use Rattle.table.specs.Authority.{senior, authorised, effective}
 use Rattle.table.specs.Changes.{withDirect}
 use Rattle.table.specs.Seniority.{links}
 use Rattle.table.specs.Separation.{Separated}
+use Rattle.table.specs.Masks.{refreshed}
 use Rattle.table.specs.Sound.{Sound}
 use Rattle.table.specs.Reading.{state}
 use Rattle.sound.specs.Answers.{isSound}
@@ -28,10 +29,10 @@ abbrev pub LinkMeans : Type 0
 LinkMeans =
     (t : List ℕ) (r q : ℕ) → isSound t ≡ true → r < 64 → q < 64 → roleStep t (ask 13 r q 0) .answer ≡ 1 ↔ MayLink (state t) r q
 
--- the link is there, and the state without it would be sound
+-- the link is there, and the state without it, its masks worked out anew, would be sound
 pub record MayUnlink (S : State) (r q : ℕ) : Type 0 where
   pub there : has (S .direct r) q ≡ true
-  pub stays-sound : Sound (withDirect S r (S .direct r without q))
+  pub stays-sound : Sound (refreshed (withDirect S r (S .direct r without q)))
 
 -- When is code 14 answered yes? Exactly so.
 abbrev pub UnlinkMeans : Type 0

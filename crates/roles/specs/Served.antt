@@ -3,11 +3,10 @@ use Rattle.bits.specs.Words.{ℕ, _<_, _≡_, Bool, true, List, ltb, length, if
 use Rattle.table.specs.State.{State}
 use Rattle.table.specs.Authority.{permission}
 use Rattle.table.specs.Separation.{GoodPair}
-use Rattle.table.specs.Changes.{withHolds}
 use Rattle.table.specs.Reading.{state}
 use Rattle.table.specs.Table.{tableLength, encode}
-use Rattle.roles.specs.Roles.{Request, opens, closes, starts, ends, activates, drops, assigns, deassigns, grants, revokes, separates, links, unlinks, changed}
-use Rattle.roles.specs.Guard.{allowedSound}
+use Rattle.roles.specs.Roles.{Request, opens, closes, starts, ends, activates, drops, assigns, deassigns, grants, revokes, separates, links, unlinks}
+use Rattle.roles.specs.Guard.{allowedSound, changedSound}
 
 -- the users, roles, objects, sessions, modes and sets that a request names are there, and no pair is one of error 21
 abbrev pub Ranged : Request → Type 0
@@ -37,8 +36,4 @@ pairKnown S code x o = if ltb code 9 then true else permission S x o
 -- yes or no and the table t′ are what the request on t comes to, where t is known to be sound and no refusal fits
 pub record Served (t t′ : List ℕ) (yes : Bool) (q : Request) : Type 0 where
   pub answer : yes ≡ allowedSound (state t) q
-  pub table : t′ ≡ (if yes then encode (changed (state t) q) else t)
-
--- the table with nothing held open by session s
-unfoldable pub closedAll : List ℕ → ℕ → List ℕ
-closedAll t s = encode (withHolds (state t) s (λ x. 0))
+  pub table : t′ ≡ (if yes then encode (changedSound (state t) q) else t)

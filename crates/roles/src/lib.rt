@@ -3,14 +3,17 @@ use table::layout::ACTIVE;
 use table::layout::ASSIGNED;
 use table::layout::GRANTED;
 use table::layout::HOLDS;
+use table::layout::MASKS;
 use table::layout::OWNER;
 use table::layout::PERMITTED;
 use table::layout::SETS;
 use table::layout::WORDS;
 ghost use mathlib.Core.Path.{_≡_};
-ghost use Prim.Native.Nat.{_*_, _-_, _≤_, _<_};
+ghost use Prim.Native.Nat.{_+_, _*_, _-_, _≤_, _<_};
 ghost use mathlib.Core.List.{[]};
 ghost use lib.ListN.{length, getD};
+ghost use Rattle.bits.specs.Words.{tabulate};
+ghost use Rattle.table.specs.Answers.{overlay};
 ghost use Rattle.table.specs.Reading.{state};
 ghost use Rattle.table.specs.Table.{tableLength};
 ghost use Rattle.roles.specs.Request;
@@ -18,7 +21,7 @@ ghost use Rattle.roles.specs.Request.{ask};
 ghost use Rattle.roles.specs.Roles.{opens, closes, starts, ends, activates, drops, assigns, deassigns, grants, revokes, separates, limits, decode};
 ghost use Rattle.roles.specs.Guard.{roleStep, soundStep};
 ghost use Rattle.roles.specs.Answer.{refusalNumber, numberOf};
-ghost use Rattle.roles.specs.Served.{Fit, Served, pairKnown, closedAll};
+ghost use Rattle.roles.specs.Served.{Fit, Served, pairKnown};
 
 // Why a request or a set-up is refused.
 pub enum Refusal {
@@ -69,12 +72,12 @@ pub fn number(a: Answer) -> u64
     }
 }
 
-// Session s opens object o in mode x.
+// Session s opens object o in mode x, where its mask has it.
 fn open(t: &mut [u64], s: usize, o: usize, x: usize) -> bool
     requires { ⌜ Fit (now t) (opens s o x) ⌝ }
     ensures { λ r. ⌜ Served (now (t .entry)) (now (t .exit)) r (opens s o x) ⌝ }
 {
-    if !table::is_effective(t, s, x, o) {
+    if !bits::has(t[MASKS + 8 * s + x], o) {
         return false;
     }
     let at = HOLDS + 8 * s + x;
@@ -108,20 +111,21 @@ fn start(t: &mut [u64], s: usize, u: usize, roles: u64) -> bool
     }
     t[OWNER + s] = u as u64 + 1;
     t[ACTIVE + s] = roles;
+    masks::refresh(t, s);
     true
 }
 
-// Session s holds nothing open.
-fn close_all(t: &mut [u64], s: usize)
-    requires { ⌜ (length (now t) ≡ tableLength) × (s < 32) ⌝ }
-    ensures { λ r. ⌜ now (t .exit) ≡ closedAll (now (t .entry)) s ⌝ }
+// Writes 0 into the eight words from the place at on.
+fn clear_eight(t: &mut [u64], at: usize)
+    requires { ⌜ (length (now t) ≡ tableLength) × (at + 8 ≤ tableLength) ⌝ }
+    ensures { λ r. ⌜ now (t .exit) ≡ overlay (now (t .entry)) at (tabulate 8 (λ i. 0)) ⌝ }
 {
-    for x in 0..8 {
-        t[HOLDS + 8 * s + x] = 0;
+    for i in 0..8 {
+        t[at + i] = 0;
     }
 }
 
-// Session s is made idle, without roles and openings.
+// Session s is made idle, without roles and openings, and may open nothing.
 fn end(t: &mut [u64], s: usize) -> bool
     requires { ⌜ Fit (now t) (ends s) ⌝ }
     ensures { λ r. ⌜ Served (now (t .entry)) (now (t .exit)) r (ends s) ⌝ }
@@ -131,7 +135,8 @@ fn end(t: &mut [u64], s: usize) -> bool
     }
     t[OWNER + s] = 0;
     t[ACTIVE + s] = 0;
-    close_all(t, s);
+    clear_eight(t, HOLDS + 8 * s);
+    clear_eight(t, MASKS + 8 * s);
     true
 }
 
@@ -143,11 +148,16 @@ fn activate(t: &mut [u64], s: usize, r: usize) -> bool
     if !table::may_activate(t, s, r) {
         return false;
     }
-    let more = bits::with(t[ACTIVE + s], r);
+    let old = t[ACTIVE + s];
+    let more = bits::with(old, r);
     if !sound::dynamic_fit(t, more) {
         return false;
     }
     t[ACTIVE + s] = more;
+    if bits::has(old, r) {
+        return true;
+    }
+    masks::refresh(t, s);
     true
 }
 
@@ -159,7 +169,12 @@ fn drop(t: &mut [u64], s: usize, r: usize) -> bool
     let old = t[ACTIVE + s];
     let less = bits::without(old, r);
     t[ACTIVE + s] = less;
-    if sound::openings_fit(t, s) {
+    if !bits::has(old, r) {
+        return true;
+    }
+    let masks = table::effective_permissions(t, s);
+    if sound::openings_within(t, s, &masks) {
+        table::overlay(t, MASKS + 8 * s, &masks);
         return true;
     }
     t[ACTIVE + s] = old;
@@ -187,6 +202,9 @@ fn deassign(t: &mut [u64], u: usize, r: usize) -> bool
     let old = t[ASSIGNED + u];
     let less = bits::without(old, r);
     t[ASSIGNED + u] = less;
+    if !bits::has(old, r) {
+        return true;
+    }
     if sound::sessions_fit(t, u) {
         return true;
     }
@@ -200,7 +218,12 @@ fn grant(t: &mut [u64], r: usize, x: usize, o: usize) -> bool
     ensures { λ a. ⌜ Served (now (t .entry)) (now (t .exit)) a (grants r x o) ⌝ }
 {
     let at = GRANTED + 64 * x + o;
-    t[at] = bits::with(t[at], r);
+    let old = t[at];
+    t[at] = bits::with(old, r);
+    if bits::has(old, r) {
+        return true;
+    }
+    masks::refresh_pair(t, x, o);
     true
 }
 
@@ -213,7 +236,11 @@ fn revoke(t: &mut [u64], r: usize, x: usize, o: usize) -> bool
     let old = t[at];
     let less = bits::without(old, r);
     t[at] = less;
+    if !bits::has(old, r) {
+        return true;
+    }
     if sound::holders_fit(t, x, o) {
+        masks::refresh_pair(t, x, o);
         return true;
     }
     t[at] = old;

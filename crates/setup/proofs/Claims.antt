@@ -12,7 +12,6 @@ use Rattle.bits.proofs.Truth.{by-truth, is-false, and-left, and-right, implies-
 use Rattle.bits.proofs.Below.{all-elim, all-counter}
 use Rattle.bits.proofs.Members.{each-elim, each-counter}
 use Rattle.table.specs.Table.{isTable, encode}
-use Rattle.table.proofs.Sound.{sound-intro}
 use Rattle.table.proofs.Table.{is-table, table-length}
 use Rattle.sound.proofs.Answers.{shown-sound}
 use Rattle.roles.specs.Request.{Outcome, refuse, accept}
@@ -88,7 +87,7 @@ set-up-sound t direct permissions a =
     (λ n k e. absurd (k (sym (answers t direct permissions e) ∙ a)))
     (λ p.
     shown-sound (fresh direct permissions) (ap (λ (o : Outcome (List ℕ)). o .state) (accepted t direct permissions p))
-    ∙ sound-intro _ (fresh-sound direct permissions (p .no-cycle)))
+    ∙ fresh-sound direct permissions (p .no-cycle))
 
 pub set-up-refused : SetUpRefused
 set-up-refused t direct permissions n =

@@ -13,14 +13,16 @@ use Rattle.bits.proofs.Below.{all-intro, all-elim}
 use Rattle.bits.proofs.Word.{has-zero, without-other}
 use Rattle.bits.proofs.Members.{each-elim}
 use Rattle.bits.proofs.Tabulate.{length-tabulate, getD-tabulate}
-use Rattle.table.specs.Sound.{Sound}
-use Rattle.table.specs.Reading.{permittedAt, assignedAt, grantedAt, ownerAt, activeAt, holdsAt, setsAt, directAt, word}
+use Rattle.table.specs.Sound.{sound, Ruled}
+use Rattle.table.proofs.Sound.{sound-intro}
+use Rattle.table.proofs.Keeps.{no-roles-mask}
+use Rattle.table.specs.Reading.{permittedAt, assignedAt, grantedAt, ownerAt, activeAt, holdsAt, setsAt, directAt, masksAt, word}
 use Rattle.table.specs.Table.{tableLength, encode}
 use Rattle.table.specs.Answers.{overlay, clearedFrom}
 use Rattle.table.proofs.Seniority.{closure-linked}
 use Rattle.table.proofs.Separation.{separated-elim, empty-separated}
 use Rattle.table.proofs.Encode.{shown}
-use Rattle.table.proofs.Answers.{length-cleared, cleared-before, cleared-after, length-overlay, overlay-at, overlay-before}
+use Rattle.table.proofs.Answers.{length-cleared, cleared-before, cleared-after, length-overlay, overlay-at, overlay-before, overlay-past}
 use Rattle.closure.specs.Closure.{closure, acyclic}
 use Rattle.setup.specs.SetUp.{fresh}
 use Rattle.closure.proofs.Closure.{closure-reflexive, closure-transitive, closure-length, closure-own}
@@ -87,12 +89,15 @@ module _ (t direct permissions : List ℕ) (e : length t ≡ tableLength) (ep : 
             overlay-at third 1032 (given direct) (directAt r) (omega arith) (omega arith) (omega arith)
             ∙ ap (λ (i : ℕ). getD (given direct) i 0) (omega arith)
             ∙ getD-tabulate 64 (λ r. getD direct r 0 without r) 0 r h;
+        masks = λ s x h k.
+            let j = l3 in let i = l2 in
+            overlay-past third 1032 (given direct) (masksAt s x) (omega arith) (omega arith) ∙ cleared-after second 72 (masksAt s x) (omega arith) (omega arith);
       })
 
 -- seniority is the closure's, and everything else is empty
-pub fresh-sound : (direct permissions : List ℕ) → acyclic (closure direct) ≡ true → Sound (fresh direct permissions)
+pub fresh-ruled : (direct permissions : List ℕ) → acyclic (closure direct) ≡ true → Ruled (fresh direct permissions)
 unfolding fresh acyclic
-fresh-sound direct permissions a = record {
+fresh-ruled direct permissions a = record {
   is-reflexive = λ r h. closure-reflexive direct r h;
   is-transitive = λ r q p hr hq hp k l. closure-transitive direct r q p hr hq hp k l;
   is-antisymmetric = λ r q hr hq k l. eqb-true r q (implies-elim _ _ (each-elim _ _ (all-elim _ 64 a r hr) q hq k) l);
@@ -105,3 +110,8 @@ fresh-sound direct permissions a = record {
   is-linked = closure-linked _ _ (λ r h. is-false (λ k. without-other (getD direct r 0) r r h k refl)) (λ r h. ap (λ (l : List ℕ). getD l r 0) (sym (closure-own direct)));
   is-separated = separated-elim _ (empty-separated _ (all-intro _ 64 (λ i h. refl)));
 }
+
+pub fresh-sound : (direct permissions : List ℕ) → acyclic (closure direct) ≡ true → sound (fresh direct permissions) ≡ true
+unfolding fresh
+fresh-sound direct permissions a =
+    sound-intro _ (fresh-ruled direct permissions a) (λ s x hs hx. sym (no-roles-mask (fresh direct permissions) s x refl))

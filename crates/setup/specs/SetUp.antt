@@ -7,7 +7,7 @@ use Rattle.table.specs.Table.{isTable, encode}
 use Rattle.roles.specs.Request.{Outcome, refuse, accept}
 use Rattle.closure.specs.Closure.{closure, acyclic}
 
--- nobody is assigned or granted anything, all sessions are idle, and no set is in use
+-- nobody is assigned or granted anything, all sessions are idle and may open nothing, and no set is in use
 unfoldable pub fresh : List ℕ → List ℕ → State
 fresh direct permissions = record {
   juniors = λ r. getD (closure direct) r 0;
@@ -19,6 +19,7 @@ fresh direct permissions = record {
   holds = λ s x. 0;
   sets = λ i. 0;
   direct = λ r. getD direct r 0 without r;
+  masks = λ s x. 0;
 }
 
 unfoldable pub roleSetUp : List ℕ → List ℕ → List ℕ → Outcome (List ℕ)

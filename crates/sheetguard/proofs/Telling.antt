@@ -4,16 +4,20 @@ use mathlib.Core.Path.{_≡_, refl, sym, ap, _∙_}
 use mathlib.Core.Bool.{Bool, true, false}
 use mathlib.Core.List.{List}
 use native.Mathlib.Omega.{arith}
+use lib.Dec.{ltb}
 use lib.ListN.{length, getD}
 use lib.Seq.{ext-getD}
-use borrow.Author.Tests.{eq-eqb, ne-eqb}
-use Rattle.bits.proofs.Truth.{past, stopped, if-true, if-false, by-truth}
+use borrow.Author.Tests.{eq-eqb, ne-eqb, ltb-true}
+use Rattle.bits.specs.Words.{tabulate}
+use Rattle.bits.proofs.Truth.{past, stopped, if-true, if-false, and-intro, by-truth}
 use Rattle.table.specs.Sound.{sound}
 use Rattle.table.specs.Table.{isTable}
 use Rattle.table.specs.Reading.{state}
 use Rattle.table.specs.Answers.{overlay, effectivePermissions}
-use Rattle.table.proofs.Answers.{length-overlay, overlay-at}
-use Rattle.bits.proofs.Tabulate.{length-tabulate}
+use Rattle.table.specs.Masks.{maskOf}
+use Rattle.table.proofs.Sound.{sound-masks}
+use Rattle.table.proofs.Answers.{length-overlay, overlay-at, effective-permissions-are}
+use Rattle.bits.proofs.Tabulate.{length-tabulate, tabulate-cong}
 use Rattle.sheetguard.specs.Reading.{told, readable, read}
 
 -- ---- the refusals
@@ -36,15 +40,14 @@ module _ (t : List ℕ) where
   unfolding readable
   readable-known i s = past _ _ i ∙ past _ _ s ∙ past _ _ refl
 
-  -- 1 is answered only where what is asked for is there
-  pub known-asked : (known : Bool) → readable t known ≡ 1 → known ≡ true
-  known-asked true e = refl
-  known-asked false e =
+  -- 1 is answered only of a sound table in which what is asked for is there
+  pub readable-elim : (known : Bool) → readable t known ≡ 1 → (isTable t ≡ true) × (sound (state t) ≡ true) × (known ≡ true)
+  readable-elim known e =
       by-truth (isTable t)
       (λ i. by-truth (sound (state t))
-      (λ s. absurd (let h = readable-unknown i s in omega (arith, e, h)))
-      (λ s. absurd (let h = readable-unsound false i s in omega (arith, e, h))))
-      (λ i. absurd (let h = readable-short false i in omega (arith, e, h)))
+      (λ s. by-truth known (λ k. (i, s, k)) (λ k. absurd (let h = ap (readable t) k ∙ readable-unknown i s in omega (arith, e, h))))
+      (λ s. absurd (let h = readable-unsound known i s in omega (arith, e, h))))
+      (λ i. absurd (let h = readable-short known i in omega (arith, e, h)))
 
 -- ---- the words
 
@@ -65,6 +68,12 @@ overlay-whole t words e =
     (λ i h.
     let l = length-overlay t 0 words in
     overlay-at t 0 words i (omega arith) (omega arith) (omega arith) ∙ ap (λ (k : ℕ). getD words k 0) (omega arith))
+
+-- the masks that a sound table keeps are the effective permissions
+pub kept-effective : (t : List ℕ) (s : ℕ) → isTable t ≡ true → sound (state t) ≡ true → ltb s 32 ≡ true → tabulate 8 (state t .masks s) ≡ effectivePermissions t s
+unfolding maskOf
+kept-effective t s i e k =
+    tabulate-cong 8 (λ x hx. sound-masks (state t) e s x (ltb-true s 32 k) hx) ∙ effective-permissions-are t s (and-intro i k)
 
 -- the effective permissions are eight words
 pub eight : (t : List ℕ) (s : ℕ) → length (effectivePermissions t s) ≡ 8

@@ -2,10 +2,15 @@
 use machine::Label;
 use roles::Answer;
 use roles::Refusal;
+use table::layout::MASKS;
 use table::layout::WORDS;
 ghost use mathlib.Core.Path.{_≡_};
+ghost use Prim.Native.Nat.{_<_};
 ghost use lib.Dec.{eqb, ltb};
-ghost use Rattle.bits.specs.Words.{_and_};
+ghost use lib.ListN.{length};
+ghost use Rattle.bits.specs.Words.{_and_, tabulate};
+ghost use Rattle.table.specs.Reading.{state};
+ghost use Rattle.table.specs.Table.{tableLength};
 ghost use Rattle.roles.specs.Request.{ask};
 ghost use Rattle.roles.specs.Guard.{roleStep};
 ghost use Rattle.roles.specs.Answer.{numberOf};
@@ -129,6 +134,18 @@ fn readable(table: &[u64], known: bool) -> Answer
     Answer::Yes
 }
 
+// The masks that the table keeps for session s.
+fn kept_masks(table: &[u64], s: usize) -> [u64; 8]
+    requires { ⌜ (length (now table) ≡ tableLength) × (s < 32) ⌝ }
+    ensures { λ r. ⌜ r ≡ tabulate 8 (state (now (table .entry)) .masks s) ⌝ }
+{
+    let mut masks = [0; 8];
+    for x in 0..8 {
+        masks[x] = table[MASKS + 8 * s + x];
+    }
+    masks
+}
+
 // The effective permissions of a session, into eight words.
 #[no_mangle]
 pub extern "C" fn sheetguard_effective_permissions(
@@ -143,11 +160,7 @@ pub extern "C" fn sheetguard_effective_permissions(
     if n != 1 {
         return n;
     }
-    table::overlay(
-        masks,
-        0,
-        &table::effective_permissions(table, session as usize),
-    );
+    table::overlay(masks, 0, &kept_masks(table, session as usize));
     n
 }
 

@@ -10,24 +10,53 @@ use Rattle.bits.specs.Words.{_and_, if_then_else_, upd, has, pack, _with_}
 use Rattle.bits.specs.Sets.{_without_}
 use Rattle.bits.proofs.Truth.{by-truth, same-truth, true-and, false-and, and-false, and-intro, if-true, if-false, false-or, not-intro}
 use Rattle.bits.proofs.Word.{has-with, has-without, pack-is, pack-cong, with-lt, without-lt, same-members, with-elim, with-new, with-old, without-old, without-other, without-keeps}
-use Rattle.table.specs.Changes.{withAssigned, withOwner, withActive, withHolds}
-use Rattle.table.proofs.Agree.{Agree, agree-refl, agree-sym, agree-trans, agree-set-assigned, agree-set-owner, agree-set-active, agree-set-holds, agree-with-holds, agree-own-assigned, by-upd}
+use Rattle.table.specs.State.{State}
+use Rattle.table.specs.Changes.{setMasks, withAssigned, withOwner, withActive, withHolds}
+use Rattle.table.specs.Masks.{maskOf, refreshedAt}
+use Rattle.table.proofs.Agree.{Agree, agree-refl, agree-sym, agree-trans, agree-set-assigned, agree-set-owner, agree-set-active, agree-set-holds, agree-set-masks, mask-agree, upd-same, upd-other, agree-with-holds, agree-own-assigned, by-upd}
+use Rattle.table.proofs.Masks.{mask-apart}
 use Rattle.table.proofs.Upd.{upd-ap, upd-twice}
-use Rattle.machine.specs.Machine.{Machine, Seat, withSeat, withOpenings, withHeld, withClearance}
+use Rattle.machine.specs.Machine as machine
+use Rattle.machine.specs.Machine.{Machine, Seat, at, mayOpen, withSeat, withOpenings, withHeld, withClearance}
+use Rattle.machine.proofs.Seats.{idle-at, same-user, same-level}
+use Rattle.image.specs.Claims.{Ranged}
 use Rattle.image.specs.Image.{clearedRoles, seatOwner, seatRoles, shown}
 use Rattle.image.proofs.Roles.{cleared-lt, cleared-elim, cleared-own, cleared-write}
-use Rattle.image.proofs.Shown.{holds-is, assigned-is}
+use Rattle.image.proofs.Shown.{holds-is, assigned-is, shown-true}
 
 -- ---- the image of each change of the machine
 
-module _ (m : Machine) where
-  pub seat-agrees : (s : ℕ) (k : Seat) → Agree (withActive (withOwner (shown m) s (seatOwner k)) s (seatRoles k)) (shown (withSeat m s k))
+-- another seat: but for the masks, and with those of its session worked out anew
+module _ (m : Machine) (s : ℕ) (k : Seat) where
+  abbrev seated : State
+  seated = withActive (withOwner (shown m) s (seatOwner k)) s (seatRoles k)
+
+  abbrev next : State
+  next = shown (withSeat m s k)
+
+  seat-apart : Agree (setMasks seated (next .masks)) next
   unfolding shown
-  seat-agrees s k =
-      agree-set-active (agree-set-owner (agree-refl (shown m))
+  seat-apart =
+      agree-set-active (agree-set-owner (agree-refl (setMasks (shown m) (next .masks)))
       (λ p h. upd-ap seatOwner (m .seat) s k p))
       (λ p h. upd-ap seatRoles (m .seat) s k p)
 
+  other-masks : (p x : ℕ) → (p ≡ s → ⊥) → shown m .masks p x ≡ next .masks p x
+  unfolding shown
+  other-masks p x n = ap (λ (j : Seat). pack 64 (λ o. ltb x 2 and mayOpen j (m .label o) x)) (sym (upd-other (m .seat) s k p n))
+
+  pub seat-agrees : Ranged (withSeat m s k) → Agree (refreshedAt s seated) next
+  seat-agrees g =
+      agree-trans
+      (agree-set-masks (agree-refl seated) (λ p x hp hx.
+      by-upd (shown m .masks) s (maskOf seated s) (λ (f : ℕ → ℕ). f x ≡ next .masks p x) p
+      (λ e.
+      sym (mask-apart seated _ s x) ∙ mask-agree seat-apart s x (subst (λ (i : ℕ). i < 32) e hp) hx
+      ∙ sym (ap (λ (i : ℕ). maskOf next i x) e) ∙ sym (shown-true (withSeat m s k) g p x hp hx))
+      (other-masks p x)))
+      seat-apart
+
+module _ (m : Machine) where
   pub openings-agree : (s : ℕ) (f : ℕ → ℕ → Bool)
       → Agree (withHolds (shown m) s (λ x. pack 64 (λ o. ltb x 2 and f o x))) (shown (withOpenings m s f))
   unfolding shown
@@ -38,6 +67,29 @@ module _ (m : Machine) where
   pub clearance-agrees : (u c : ℕ) → Agree (withAssigned (shown m) u (clearedRoles c)) (shown (withClearance m u c))
   unfolding shown
   clearance-agrees u c = agree-set-assigned (agree-refl (shown m)) (λ v h. upd-ap clearedRoles (m .clearance) u c v)
+
+-- the machine with another seat is in range
+
+-- the seat of a session after one seat was changed
+by-seat : {A : Type 0} (seat : ℕ → Seat) (t : ℕ) (new : Seat) (s u y : ℕ) → upd seat t new s ≡ at u y → (new ≡ at u y → A) → (seat s ≡ at u y → A) → A
+by-seat seat t new s u y p f h =
+    by-truth (eqb s t)
+    (λ e. f (sym (ap (upd seat t new) (eqb-true s t e) ∙ upd-same seat t new) ∙ p))
+    (λ e. h (sym (upd-other seat t new s (eqb-false s t e)) ∙ p))
+
+module _ (m : Machine) (g : Ranged m) (s : ℕ) where
+  seat-ranged : (k : Seat) → ((u y : ℕ) → k ≡ at u y → (u < 64) × (y < 32)) → Ranged (withSeat m s k)
+  seat-ranged k h = record {
+    clearances = g .clearances;
+    labels = g .labels;
+    seats = λ p u y l e. by-seat (m .seat) s k p u y e (h u y) (g .seats p u y l);
+  }
+
+  pub seated-ranged : (u y : ℕ) → u < 64 → y < 32 → Ranged (withSeat m s (at u y))
+  seated-ranged u y hu hy = seat-ranged (at u y) (λ v z e. let b = same-user u y v z e in let c = same-level u y v z e in (omega arith, omega arith))
+
+  pub idle-ranged : Ranged (withSeat m s machine.idle)
+  idle-ranged = seat-ranged machine.idle (λ u y e. absurd (idle-at u y e))
 
 -- ---- openings
 

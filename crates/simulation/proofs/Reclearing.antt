@@ -14,7 +14,7 @@ use Rattle.bits.proofs.Members.{each-intro, each-elim}
 use Rattle.table.specs.State.{State}
 use Rattle.table.specs.Authority.{authorised}
 use Rattle.table.specs.Changes.{withAssigned}
-use Rattle.table.specs.Sound.{Sound}
+use Rattle.table.specs.Sound as table
 use Rattle.table.specs.Reading.{state}
 use Rattle.table.specs.Table.{encode}
 use Rattle.table.proofs.Agree.{upd-same}
@@ -44,7 +44,7 @@ module _ (m : Machine) (g : Ranged m) (f : Safe m) where
   abbrev S : State
   S = shown m
 
-  sound : Sound S
+  sound : table.sound S ≡ true
   sound = safe-sound m g f
 
   -- the sessions of a user with the roles of clearance c fit when c dominates their levels
@@ -127,7 +127,7 @@ module _ (m : Machine) (g : Ranged m) (f : Safe m) where
       added : Answered (encode S) (ask 7 u c 0) true (encode A1)
       added = answered-yes _ _ _ _ _ (assign-is S sound (no-sets m) u c hu (omega arith)) refl
 
-      sound-added : Sound A1
+      sound-added : table.sound A1 ≡ true
       sound-added = next-sound S A1 sound (ask 7 u c 0) (added .table)
 
       is-more : A1 .assigned u ≡ clearedRoles k with c

@@ -4,22 +4,17 @@ use Prim.Native.Nat.{ℕ, _<_}
 use mathlib.Core.Path.{_≡_, sym, ap, subst, _∙_}
 use mathlib.Core.Bool.{true}
 use mathlib.Core.List.{List}
-use native.Mathlib.Omega.{arith}
-use lib.Dec.{eqb}
-use borrow.Author.Tests.{eqb-true, eqb-false}
-use Rattle.bits.specs.Words.{upd}
 use Rattle.bits.proofs.Truth.{by-truth}
 use Rattle.table.specs.Reading.{state}
 use Rattle.table.specs.Table.{encode}
-use Rattle.table.proofs.Agree.{by-upd, upd-same, upd-other}
+use Rattle.table.proofs.Agree.{by-upd}
 use Rattle.table.proofs.Encode.{state-encode}
 use Rattle.sound.specs.Answers.{isSound}
 use Rattle.sound.proofs.Answers.{sound-state, sound-table}
 use Rattle.roles.specs.Request.{Ask, Outcome}
 use Rattle.roles.specs.Guard.{roleStep}
 use Rattle.machine.specs.Machine as machine
-use Rattle.machine.specs.Machine.{Machine, Seat, at, Request, isCode, inRange, step}
-use Rattle.machine.proofs.Seats.{idle-at, same-user, same-level}
+use Rattle.machine.specs.Machine.{Machine, Request, isCode, inRange, step}
 use Rattle.machine.proofs.Steps.{Decoded, is-opening, is-closing, is-starting, is-ending, is-reclearing, decoded, step-code, step-argument, step-does, Case, stays, goes, cases}
 use Rattle.image.specs.Image.{shown, image}
 use Rattle.image.specs.Test.{isImage}
@@ -29,15 +24,9 @@ use Rattle.labels.specs.Guard.{labelStep, imageStep}
 use Rattle.labels.proofs.Claims.{served-same, kept-sound}
 use Rattle.labels.proofs.Refusing.{translated-code, translated-argument, translated-plan, label-step-image}
 use Rattle.simulation.proofs.Deciding.{pictured, picture-refuse}
+use Rattle.simulation.proofs.Changing.{seated-ranged, idle-ranged}
 use Rattle.simulation.proofs.Single.{Simulated, open-same, close-same, start-same, end-same}
 use Rattle.simulation.proofs.Reclearing.{reclear-all-same}
-
--- the seat of a session after one seat was changed
-by-seat : {A : Type 0} (seat : ℕ → Seat) (t : ℕ) (new : Seat) (s u y : ℕ) → upd seat t new s ≡ at u y → (new ≡ at u y → A) → (seat s ≡ at u y → A) → A
-by-seat seat t new s u y p f h =
-    by-truth (eqb s t)
-    (λ e. f (sym (ap (upd seat t new) (eqb-true s t e) ∙ upd-same seat t new) ∙ p))
-    (λ e. h (sym (upd-other seat t new s (eqb-false s t e)) ∙ p))
 
 -- what a request leaves is in range
 next-ranged : (m : Machine) → Ranged m → (q : Ask) {o : Outcome Machine} → Case m q o → Ranged (o .state)
@@ -48,19 +37,10 @@ next-ranged m g q (goes (is-opening d i j l) a y e) =
 next-ranged m g q (goes (is-closing d i j l) a y e) =
     subst Ranged (sym e) (record { clearances = g .clearances; labels = g .labels; seats = g .seats })
 next-ranged m g q (goes (is-starting d i j l) a y e) =
-    subst Ranged (sym e) (record {
-      clearances = g .clearances;
-      labels = g .labels;
-      seats = λ s u z h p. by-seat (m .seat) (q .a) (at (q .b) (q .c)) s u z p
-          (λ n. let b = same-user (q .b) (q .c) u z n in let c = same-level (q .b) (q .c) u z n in (omega arith, omega arith))
-          (λ n. g .seats s u z h n);
-    })
+    subst Ranged (sym e) (seated-ranged m g (q .a) (q .b) (q .c) j l)
 next-ranged m g q (goes (is-ending d i j l) a y e) =
-    subst Ranged (sym e) (record {
-      clearances = g .clearances;
-      labels = g .labels;
-      seats = λ s u z h p. by-seat (m .seat) (q .a) machine.idle s u z p (λ n. absurd (idle-at u z n)) (λ n. g .seats s u z h n);
-    })
+    let r = idle-ranged m g (q .a) in
+    subst Ranged (sym e) (record { clearances = r .clearances; labels = r .labels; seats = r .seats })
 next-ranged m g q (goes (is-reclearing d i j l) a y e) =
     subst Ranged (sym e) (record {
       clearances = λ v h. by-upd (m .clearance) (q .a) (q .b) (λ (n : ℕ). n < 32) v (λ n. j) (λ n. g .clearances v h);

@@ -10,7 +10,9 @@ use Rattle.bits.proofs.Truth.{and-false}
 use Rattle.bits.proofs.Word.{pack-none, with-lt}
 use Rattle.table.specs.State.{State}
 use Rattle.table.specs.Changes.{withOwner, withActive, withHolds}
-use Rattle.table.specs.Sound.{Sound}
+use Rattle.table.specs.Authority.{effective}
+use Rattle.table.specs.Masks.{maskOf, refreshedAt}
+use Rattle.table.specs.Sound as table
 use Rattle.table.specs.Table.{encode}
 use Rattle.table.proofs.Agree.{Agree, agree-trans, agree-with-holds}
 use Rattle.table.proofs.Encode.{encode-cong}
@@ -26,7 +28,7 @@ use Rattle.image.proofs.Roles.{authorised-seat}
 use Rattle.image.proofs.Shown.{no-sets, safe-sound, shown-juniors, assigned-is, effective-shown, idle-shown}
 use Rattle.labels.specs.Guard.{plan, carryOut}
 use Rattle.simulation.proofs.Deciding.{single-decided, pictured, picture-decide}
-use Rattle.simulation.proofs.Changing.{seat-agrees, openings-agree, opened-agrees, closed-agrees}
+use Rattle.simulation.proofs.Changing.{seated-ranged, idle-ranged, seat-agrees, openings-agree, opened-agrees, closed-agrees}
 
 -- a label request on the image of m comes to what it comes to on m, with the image of what is left
 abbrev pub Simulated : Machine → Request → Type 0
@@ -46,7 +48,7 @@ module _ (m : Machine) (g : Ranged m) (f : Safe m) where
   abbrev S : State
   S = shown m
 
-  sound : Sound S
+  sound : table.sound S ≡ true
   sound = safe-sound m g f
 
   pub open-same : (s o x : ℕ) → s < 32 → o < 64 → x < 2 → Simulated m (opening s o x)
@@ -69,16 +71,16 @@ module _ (m : Machine) (g : Ranged m) (f : Safe m) where
       single-decided _ _ _ _ _ (start-is S sound (no-sets m) s u (seatRoles (at u y)) hs hu (with-lt _ _))
       ∙ ap₂ (λ (b : Bool) (t : List ℕ). decide b 1 1 t (encode S))
       (ap₂ _and_ (idle-shown m s) (authorised-seat S (shown-juniors m) u (m .clearance u) (g .clearances u hu) (assigned-is m u) u y hy))
-      (encode-cong (seat-agrees m s (at u y)))
+      (encode-cong (seat-agrees m s (at u y) (seated-ranged m g s u y hu hy)))
       ∙ sym (decided m _ 1 1 _ (starting s u y) (act-starting m s u y))
 
   -- the image of an ended session
   ended : (s : ℕ)
-      → Agree (withHolds (withActive (withOwner S s 0) s 0) s (λ x. 0)) (shown (withOpenings (withSeat m s machine.idle) s (λ o x. false)))
-  unfolding seatOwner seatRoles
+      → Agree (refreshedAt s (withHolds (withActive (withOwner S s 0) s 0) s (λ x. 0))) (shown (withOpenings (withSeat m s machine.idle) s (λ o x. false)))
+  unfolding seatOwner seatRoles maskOf effective
   ended s =
       agree-trans
-      (agree-with-holds (seat-agrees m s machine.idle) s (λ x h. sym (pack-none 64 (λ o l. and-false (ltb x 2) refl))))
+      (agree-with-holds (seat-agrees m s machine.idle (idle-ranged m g s)) s (λ x h. sym (pack-none 64 (λ o l. and-false (ltb x 2) refl))))
       (openings-agree (withSeat m s machine.idle) s (λ o x. false))
 
   pub end-same : (s : ℕ) → s < 32 → Simulated m (ending s)

@@ -3,37 +3,40 @@ use Prim.Native.Nat.{ℕ, suc, _+_, _*_, _≤_, _<_}
 use mathlib.Core.Path.{_≡_, sym, ap, ap₂, _∙_}
 use mathlib.Core.Bool.{Bool, true, false}
 use mathlib.Core.List.{List}
+use native.Mathlib.Nat.{zero-add}
 use native.Mathlib.Omega.{arith}
 use lib.Dec.{eqb, leb, ltb}
-use lib.ListN.{length}
+use lib.ListN.{length, getD}
 use borrow.Author.Tests.{eq-eqb, eqb-true, leb-true, lt-ltb, le-ltb}
-use Rattle.bits.specs.Words.{_and_, _implies_, has, all, subset, pack}
-use Rattle.bits.specs.Sets.{each, overlap}
+use Rattle.bits.specs.Words.{_and_, _implies_, has, all, subset}
+use Rattle.bits.specs.Sets.{each}
 use Rattle.bits.proofs.Truth.{clash, by-truth, is-false, same-truth, and-intro, and-left, and-right, true-and, false-and, and-false, and-assoc, implies-intro, implies-elim}
 use Rattle.bits.proofs.Below.{all-intro, all-fails, all-cong}
-use Rattle.bits.proofs.Members.{each-intro, each-elim, each-cong, subset-intro, subset-elim, subset-pack}
+use Rattle.bits.proofs.Members.{each-cong, subset-pack}
 use Rattle.table.specs.State.{State}
-use Rattle.table.specs.Authority.{permission, covers, authorised, mayActivate, effective}
+use Rattle.table.specs.Authority.{authorised, mayActivate, effective}
 use Rattle.table.specs.Separation.{fewer, staticSetsHold, separated}
-use Rattle.table.specs.Sound.{sound, Sound}
-use Rattle.table.specs.Answers.{coveredRoles, openable}
+use Rattle.table.specs.Masks.{maskOf}
+use Rattle.table.specs.Sound.{sound}
+use Rattle.table.specs.Answers.{coveredRoles, effectivePermissions, openable}
 use Rattle.table.specs.Reading.{state}
 use Rattle.table.specs.Table.{tableLength, isTable, encode}
 use Rattle.table.proofs.Agree.{Agree, authorised-agree, may-activate-agree, effective-agree, sound-agree}
 use Rattle.table.proofs.Encode.{state-encode, encode-length}
-use Rattle.table.proofs.State.{effective-is}
 use Rattle.table.proofs.Separation.{fewer-cong, separated-intro}
-use Rattle.table.proofs.Sound.{sound-elim}
+use Rattle.table.proofs.Sound.{sound-ruled}
 use Rattle.table.proofs.Table.{is-table, not-table}
 use Rattle.table.proofs.Answers.{covered-roles-are, openable-is}
-use Rattle.sound.specs.Answers.{isSound, openingsFit, sessionsFit, pairFits, sessionsHold, openingsOf, sessionsOf, holdersOf, staticSetsOf, sessionsHoldOf}
-use Rattle.sound.specs.Tests.{rolesFit, heldFits}
+use Rattle.masks.specs.Answers.{allMasks}
+use Rattle.masks.proofs.Refreshing.{all-masks-of, permissions-are}
+use Rattle.sound.specs.Answers.{isSound, openingsFit, sessionsFit, pairFits, sessionsHold, heldWithin, openingsWithin, sessionsOf, holdersOf, staticSetsOf, sessionsWithin}
+use Rattle.sound.specs.Tests.{rolesFit}
 
 module _ (t : List ℕ) where
   -- an item that a sound state passes, and this one does not
-  pub unsound : {b : Bool} → (Sound (state t) → b ≡ true) → b ≡ false → false ≡ isSound t
+  pub unsound : {b : Bool} → (sound (state t) ≡ true → b ≡ true) → b ≡ false → false ≡ isSound t
   unfolding isSound
-  unsound k e = sym (and-false (isTable t) (is-false (λ p. clash (k (sound-elim (state t) p)) e)))
+  unsound k e = sym (and-false (isTable t) (is-false (λ p. clash (k p) e)))
 
   pub no-table : (length t ≡ tableLength → ⊥) → false ≡ isSound t
   unfolding isSound
@@ -43,7 +46,7 @@ module _ (t : List ℕ) where
   pub found-sound : {b : Bool} → length t ≡ tableLength → b ≡ separated (state t) → (separated (state t) ≡ true → sound (state t) ≡ true) → b ≡ isSound t
   unfolding isSound
   found-sound e p k =
-      p ∙ same-truth (λ d. and-intro (is-table t e) (k d)) (λ d. separated-intro (state t) (sound-elim (state t) (and-right (isTable t) _ d) .is-separated))
+      p ∙ same-truth (λ d. and-intro (is-table t e) (k d)) (λ d. separated-intro (state t) (sound-ruled (state t) (and-right (isTable t) _ d) .is-separated))
 
 -- what the test answers of a table
 pub sound-state : (t : List ℕ) → isSound t ≡ true → sound (state t) ≡ true
@@ -64,49 +67,30 @@ unsound-state t e p = sym (true-and _ (is-table t e)) ∙ p
 
 -- ---- the openings of one session
 
--- what s holds in mode x is effective: pairs that are permissions, granted to the active roles or their juniors
-pub mode-is : (S : State) (roles s x : ℕ) → roles ≡ pack 64 (covers S (S .active s))
-    → each (S .holds s x) (λ o. effective S s x o) ≡ subset (S .holds s x) (S .permitted x) and heldFits S roles s x
-unfolding heldFits
-mode-is S roles s x e =
-    same-truth
-    (λ k.
-    and-intro
-    (subset-intro (S .holds s x) (S .permitted x) (λ o h m. and-left (permission S x o) _ (told o h m k)))
-    (each-intro (S .holds s x) _ (λ o h m. ap (λ (w : ℕ). overlap (S .granted x o) w) e ∙ and-right (permission S x o) _ (told o h m k))))
-    (λ k. each-intro (S .holds s x) _ (λ o h m.
-    effective-is S s x o
-    ∙ and-intro (subset-elim (S .holds s x) (S .permitted x) (and-left _ _ k) o h m)
-    (sym (ap (λ (w : ℕ). overlap (S .granted x o) w) e) ∙ each-elim (S .holds s x) _ (and-right _ _ k) o h m)))
-  where
-    told : (o : ℕ) → o < 64 → has (S .holds s x) o ≡ true → each (S .holds s x) (λ o. effective S s x o) ≡ true
-        → permission S x o and overlap (S .granted x o) (pack 64 (covers S (S .active s))) ≡ true
-    told o h m k = sym (effective-is S s x o) ∙ each-elim (S .holds s x) _ k o h m
+-- what s holds is in masks that are those of what it may open: all of it is effective
+pub within-fits : (S : State) (s : ℕ) (masks : ℕ → ℕ) → ((x : ℕ) → x < 8 → masks x ≡ maskOf S s x) → heldWithin S s masks ≡ openingsFit S s
+unfolding heldWithin openingsFit maskOf
+within-fits S s masks e = all-cong 8 (λ x hx. ap (subset (S .holds s x)) (e x hx) ∙ subset-pack (S .holds s x) (effective S s x))
 
 -- ---- a table and a bound, then the test
 
 module _ (t : List ℕ) where
-  pub openings-are : (s : ℕ) → length t ≡ tableLength → s < 32 → openingsFit (state t) s ≡ openingsOf t s
-  unfolding openingsOf
-  openings-are s e h = sym (true-and _ (is-table t e) ∙ true-and _ (lt-ltb s 32 h))
+  pub within-are : (s : ℕ) (masks : List ℕ) → length t ≡ tableLength → s < 32 → heldWithin (state t) s (λ x. getD masks x 0) ≡ openingsWithin t s masks
+  unfolding openingsWithin
+  within-are s masks e h = sym (true-and _ (is-table t e) ∙ true-and _ (lt-ltb s 32 h))
 
-  pub openings-fail : (s x : ℕ) → length t ≡ tableLength → s < 32 → x < 8 → each (state t .holds s x) (λ o. effective (state t) s x o) ≡ false
-      → false ≡ openingsOf t s
-  unfolding openingsFit
-  openings-fail s x e hs hx k = sym (all-fails _ 8 x hx k) ∙ openings-are s e hs
+  -- as the code asks it, from place 0 on
+  pub within-from : (s : ℕ) (masks : List ℕ) → length t ≡ tableLength → s < 32 → heldWithin (state t) s (λ x. getD masks (0 + x) 0) ≡ openingsWithin t s masks
+  unfolding heldWithin
+  within-from s masks e h = all-cong 8 (λ x k. ap (λ (i : ℕ). subset (state t .holds s x) (getD masks i 0)) (zero-add x)) ∙ within-are s masks e h
 
-  pub openings-hold : (s : ℕ) → length t ≡ tableLength → s < 32
-      → ((x : ℕ) → x < 8 → each (state t .holds s x) (λ o. effective (state t) s x o) ≡ true) → true ≡ openingsOf t s
-  unfolding openingsFit
-  openings-hold s e hs k = sym (all-intro _ 8 k) ∙ openings-are s e hs
+  pub within-short : (s : ℕ) (masks : List ℕ) → (length t ≡ tableLength → ⊥) → false ≡ openingsWithin t s masks
+  unfolding openingsWithin
+  within-short s masks n = sym (false-and _ (not-table t n))
 
-  pub openings-short : (s : ℕ) → (length t ≡ tableLength → ⊥) → false ≡ openingsOf t s
-  unfolding openingsOf
-  openings-short s n = sym (false-and _ (not-table t n))
-
-  pub openings-past : (s : ℕ) → 32 ≤ s → false ≡ openingsOf t s
-  unfolding openingsOf
-  openings-past s h = sym (and-false (isTable t) (false-and _ (le-ltb s 32 h)))
+  pub within-past : (s : ℕ) (masks : List ℕ) → 32 ≤ s → false ≡ openingsWithin t s masks
+  unfolding openingsWithin
+  within-past s masks h = sym (and-false (isTable t) (false-and _ (le-ltb s 32 h)))
 
   same-roles : (u s roles : ℕ) → length t ≡ tableLength → roles ≡ coveredRoles t (state t .assigned u)
       → subset (state t .active s) roles ≡ each (state t .active s) (λ r. authorised (state t) u r)
@@ -173,9 +157,10 @@ module _ (t : List ℕ) where
 
 -- ---- all sessions, one by one
 
-pub sessions-hold-are : (t : List ℕ) → length t ≡ tableLength → all 32 (λ s. rolesFit (state t) s and openingsFit (state t) s) ≡ sessionsHoldOf t
-unfolding rolesFit sessionsHold sessionsHoldOf
-sessions-hold-are t e = all-cong 32 (λ s h. and-assoc (leb (state t .owner s) 64) _ _) ∙ sym (true-and _ (is-table t e))
+pub sessions-within-are : (t masks : List ℕ) → length t ≡ tableLength
+    → all 32 (λ s. rolesFit (state t) s and heldWithin (state t) s (λ x. getD masks (8 * s + x) 0)) ≡ sessionsWithin t masks
+unfolding rolesFit sessionsWithin
+sessions-within-are t masks e = all-cong 32 (λ s h. and-assoc (leb (state t .owner s) 64) _ _) ∙ sym (true-and _ (is-table t e))
 
 -- ---- on the table of a state
 
@@ -229,8 +214,11 @@ module _ {t : List ℕ} (S : State) (e : t ≡ encode S) where
   long : length t ≡ tableLength
   long = ap length e ∙ encode-length S
 
-  pub openings-shown : (s : ℕ) → s < 32 → openingsOf t s ≡ openingsFit S s
-  openings-shown s hs = sym (openings-are t s long hs) ∙ openings-agree shows s hs
+  pub within-shown : (s : ℕ) (masks : List ℕ) → s < 32 → masks ≡ effectivePermissions t s → openingsWithin t s masks ≡ openingsFit S s
+  within-shown s masks hs e =
+      sym (within-are t s masks long hs)
+      ∙ within-fits (state t) s (λ x. getD masks x 0) (λ x hx. ap (λ (l : List ℕ). getD l x 0) e ∙ permissions-are t s x long hs hx)
+      ∙ openings-agree shows s hs
 
   pub sessions-shown : (u : ℕ) → u < 64 → sessionsOf t u ≡ sessionsFit S u
   sessions-shown u hu = sym (sessions-are t u long hu) ∙ sessions-agree shows u hu
@@ -238,9 +226,13 @@ module _ {t : List ℕ} (S : State) (e : t ≡ encode S) where
   pub holders-shown : (x o : ℕ) → x < 8 → o < 64 → holdersOf t x o ≡ pairFits S x o
   holders-shown x o hx ho = sym (holders-are t x o long hx ho) ∙ pair-agree shows x o hx ho
 
-  pub sessions-hold-shown : sessionsHoldOf t ≡ sessionsHold S
-  unfolding sessionsHoldOf
-  sessions-hold-shown = true-and _ (is-table t long) ∙ sessions-hold-agree shows
+  pub sessions-within-shown : (masks : List ℕ) → masks ≡ allMasks t → sessionsWithin t masks ≡ sessionsHold S
+  unfolding sessionsWithin sessionsHold
+  sessions-within-shown masks e =
+      true-and _ (is-table t long)
+      ∙ all-cong 32 (λ s h. ap (λ (b : Bool). leb (state t .owner s) 64 and each (state t .active s) (mayActivate (state t) s) and b)
+      (within-fits (state t) s (λ x. getD masks (8 * s + x) 0) (λ x hx. ap (λ (l : List ℕ). getD l (8 * s + x) 0) e ∙ all-masks-of t s x long h hx)))
+      ∙ sessions-hold-agree shows
 
   pub static-sets-shown : staticSetsOf t ≡ staticSetsHold S
   unfolding staticSetsOf

@@ -7,7 +7,7 @@ use Rattle.bits.specs.Words.{all}
 use Rattle.bits.proofs.Truth.{or-left}
 use Rattle.bits.proofs.Below.{all-elim, all-intro}
 use Rattle.table.specs.State.{State}
-use Rattle.table.specs.Sound.{Sound}
+use Rattle.table.specs.Sound.{Ruled}
 use Rattle.sound.specs.Tests.{grantFits, grantsFit}
 use Rattle.sound.proofs.Items.{sound-grant}
 
@@ -16,7 +16,7 @@ module _ (S : State) (x : ℕ) where
   unfolding grantsFit grantFits
   none-fits e = all-intro _ 64 (λ o h. or-left _ (all-elim _ 64 e o h))
 
-  pub sound-grants : Sound S → ((o : ℕ) → S .granted x o < 2 ^ 64) → x < 8 → grantsFit S x ≡ true
+  pub sound-grants : Ruled S → ((o : ℕ) → S .granted x o < 2 ^ 64) → x < 8 → grantsFit S x ≡ true
   unfolding grantsFit
   sound-grants f w hx = all-intro _ 64 (λ o h. sound-grant S f x o (w o) hx h)
 

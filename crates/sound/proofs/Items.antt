@@ -6,22 +6,25 @@ use native.Mathlib.Omega.{arith}
 use lib.Dec.{eqb}
 use borrow.Author.Tests.{eqb-true, eqb-false, eq-eqb, ne-eqb, leb-true, le-leb, lt-leb, not-true}
 use Rattle.bits.specs.Words.{_or_, has, subset, pack, _with_}
-use Rattle.bits.specs.Sets.{some, lowest, overlap}
+use Rattle.bits.specs.Sets.{some, lowest}
 use Rattle.bits.proofs.Truth.{clash, by-truth, is-false, same-truth, not-intro, and-intro, and-left, and-right, true-and, false-and, or-left, or-right, or-elim}
 use Rattle.bits.proofs.Word.{has-pack, has-with, with-lt, none-in, same-members}
-use Rattle.bits.proofs.Members.{not-empty, each-intro, each-elim, each-cong, subset-pack, overlap-elim}
+use Rattle.bits.proofs.Members.{not-empty, each-intro, each-elim, each-cong, subset-intro, subset-elim, subset-pack}
 use Rattle.bits.proofs.Walk.{lowest-lt, lowest-in}
 use Rattle.closure.proofs.Fixed.{Fixed, step, fixed-own-clear, fixed-reached, fixed-reaches, fixed-one-way, reached-fixed}
 use Rattle.table.specs.State.{State}
-use Rattle.table.specs.Authority.{senior, permission, idle, user, covers, authorised, mayActivate}
+use Rattle.table.specs.Authority.{senior, permission, idle, user, covers, authorised, mayActivate, effective}
 use Rattle.table.specs.Seniority.{links, Linked}
 use Rattle.table.specs.Separation.{separated}
-use Rattle.table.specs.Sound.{sound, Sound}
+use Rattle.table.specs.Masks.{MasksTrue}
+use Rattle.table.specs.Sound.{sound, Ruled}
 use Rattle.table.proofs.Seniority.{link-at, linked-junior, linked-reflexive, linked-transitive}
-use Rattle.table.proofs.State.{covers-intro, covers-elim, effective-is, may-activate-idle, may-activate-busy}
+use Rattle.table.proofs.State.{covers-intro, covers-elim, may-activate-idle, may-activate-busy}
 use Rattle.table.proofs.Separation.{separated-elim}
+use Rattle.table.proofs.Masks.{mask-has}
+use Rattle.table.proofs.Keeps.{no-roles-none-effective}
 use Rattle.table.proofs.Sound.{sound-intro}
-use Rattle.sound.specs.Tests.{roleFits, grantFits, rolesFit, heldFits}
+use Rattle.sound.specs.Tests.{roleFits, grantFits, rolesFit}
 
 -- the words of a state that a table shows are words
 pub record Words (S : State) : Type 0 where
@@ -63,7 +66,7 @@ covered-is S r p hr hp =
 
 -- ---- a sound state passes each item
 
-module _ (S : State) (f : Sound S) where
+module _ (S : State) (f : Ruled S) where
   pub sound-role : (r : ℕ) → r < 64 → roleFits S r ≡ true
   unfolding roleFits
   sound-role r h =
@@ -90,30 +93,22 @@ module _ (S : State) (f : Sound S) where
   sound-roles s h =
       and-intro (le-leb (S .owner s) 64 (f .owners-known s h)) (each-intro (S .active s) _ (λ r hr m. f .active-authorised s r h hr m))
 
-  pub sound-held : (roles s x : ℕ) → roles ≡ pack 64 (covers S (S .active s)) → s < 32 → x < 8 → heldFits S roles s x ≡ true
-  unfolding heldFits
-  sound-held roles s x e hs hx =
-      each-intro (S .holds s x) _ (λ o ho m.
-      ap (λ (w : ℕ). overlap (S .granted x o) w) e
-      ∙ and-right (permission S x o) _ (sym (effective-is S s x o) ∙ f .openings-effective s x o hs hx ho m))
+  pub sound-held : MasksTrue S → (s x : ℕ) → s < 32 → x < 8 → subset (S .holds s x) (S .masks s x) ≡ true
+  sound-held m s x hs hx =
+      subset-intro (S .holds s x) (S .masks s x) (λ o ho k.
+      ap (λ (v : ℕ). has v o) (m s x hs hx) ∙ mask-has S s x o ho ∙ f .openings-effective s x o hs hx ho k)
 
 -- ---- a state that passes all is sound
 
--- session s fits: its roles, and what it holds in each mode
+-- session s fits: its roles, and what it holds
 pub record SessionFits (S : State) (s : ℕ) : Type 0 where
   pub roles-fit : rolesFit S s ≡ true
-  pub held-fits : (x : ℕ) → x < 8 → heldFits S (pack 64 (covers S (S .active s))) s x ≡ true
-
-pub session-fits : {S : State} {s roles : ℕ} → rolesFit S s ≡ true → roles ≡ pack 64 (covers S (S .active s))
-    → ((x : ℕ) → x < 8 → heldFits S roles s x ≡ true) → SessionFits S s
-session-fits {S} {s} a e k = record {
-  roles-fit = a;
-  held-fits = λ x h. sym (ap (λ (w : ℕ). heldFits S w s x) e) ∙ k x h;
-}
+  pub held-within : (x : ℕ) → x < 8 → subset (S .holds s x) (S .masks s x) ≡ true
 
 module _ (S : State) (w : Words S)
     (by-role : (r : ℕ) → r < 64 → roleFits S r ≡ true)
     (by-grant : (x o : ℕ) → x < 8 → o < 64 → grantFits S x o ≡ true)
+    (by-mask : MasksTrue S)
     (by-session : (s : ℕ) → s < 32 → SessionFits S s) where
   is-fixed : Fixed (links (S .direct)) (S .juniors)
   unfolding roleFits
@@ -152,16 +147,15 @@ module _ (S : State) (w : Words S)
   no-roles s h i =
       none-in (S .active s) (w .active-word s) (λ r hr. is-false (λ m. clash (may-activate s r h hr m) (may-activate-idle S s r i)))
 
-  reach : (s x o : ℕ) → s < 32 → x < 8 → o < 64 → has (S .holds s x) o ≡ true → overlap (S .granted x o) (pack 64 (covers S (S .active s))) ≡ true
-  unfolding heldFits
-  reach s x o hs hx ho m = each-elim (S .holds s x) _ (by-session s hs .held-fits x hx) o ho m
+  reach : (s x o : ℕ) → s < 32 → x < 8 → o < 64 → has (S .holds s x) o ≡ true → effective S s x o ≡ true
+  reach s x o hs hx ho m =
+      sym (ap (λ (v : ℕ). has v o) (by-mask s x hs hx) ∙ mask-has S s x o ho)
+      ∙ subset-elim (S .holds s x) (S .masks s x) (by-session s hs .held-within x hx) o ho m
 
   no-openings : (s x : ℕ) → s < 32 → x < 8 → idle S s ≡ true → S .holds s x ≡ 0
   no-openings s x hs hx i =
       none-in (S .holds s x) (w .holds-word s x) (λ o ho. is-false (λ m.
-      let q = overlap-elim (S .granted x o) _ (reach s x o hs hx ho m) in
-      let r = covers-elim S (S .active s) (q .at) (sym (has-pack _ 64 (q .at) (q .below)) ∙ q .holds) in
-      not-empty (S .active s) (r .at) (r .member) (no-roles s hs i)))
+      no-roles-none-effective S s x o (no-roles s hs i) (reach s x o hs hx ho m)))
 
   pub items-sound : separated S ≡ true → sound S ≡ true
   unfolding rolesFit
@@ -175,10 +169,7 @@ module _ (S : State) (w : Words S)
         idle-no-roles = no-roles;
         idle-no-openings = no-openings;
         active-authorised = may-activate;
-        openings-effective = λ s x o hs hx ho m.
-            let k = reach s x o hs hx ho m in
-            let q = overlap-elim (S .granted x o) _ k in
-            effective-is S s x o ∙ and-intro (permits x o (q .at) hx ho (q .member)) k;
+        openings-effective = reach;
         is-linked = is-linked;
         is-separated = separated-elim S d;
-      })
+      }) by-mask

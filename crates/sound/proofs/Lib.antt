@@ -3,5 +3,6 @@ pub mod Items
 pub mod Gathering
 pub mod Grants
 pub mod Sets
+pub mod Masks
 pub mod Answers
 pub mod Parts

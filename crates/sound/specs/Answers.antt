@@ -1,6 +1,6 @@
 -- What the public functions answer, for a list of any length and any number: no, where the list is no table or there is no
 -- such session, user, mode or object. `isSound` is 01's soundness; the others are the part of it that one change can break.
-use Rattle.bits.specs.Words.{ℕ, suc, _+_, Bool, List, eqb, leb, ltb, _and_, _implies_, if_then_else_, has, all}
+use Rattle.bits.specs.Words.{ℕ, suc, _+_, _*_, Bool, List, eqb, leb, ltb, getD, _and_, _implies_, if_then_else_, has, all, subset}
 use Rattle.bits.specs.Sets.{each}
 use Rattle.table.specs.State.{State}
 use Rattle.table.specs.Authority.{covers, authorised, mayActivate, effective}
@@ -37,8 +37,12 @@ sessionsHold S = all 32 (λ s. leb (S .owner s) 64 and each (S .active s) (mayAc
 unfoldable pub pairHolds : State → ℕ → ℕ → ℕ → Bool
 pairHolds S n m b = if ltb n 16 then staticHolds S m b else dynamicHolds S m b
 
-unfoldable pub openingsOf : List ℕ → ℕ → Bool
-openingsOf t s = isTable t and ltb s 32 and openingsFit (state t) s
+-- all that session s holds open is in these eight masks
+unfoldable pub heldWithin : State → ℕ → (ℕ → ℕ) → Bool
+heldWithin S s masks = all 8 (λ x. subset (S .holds s x) (masks x))
+
+unfoldable pub openingsWithin : List ℕ → ℕ → List ℕ → Bool
+openingsWithin t s masks = isTable t and ltb s 32 and heldWithin (state t) s (λ x. getD masks x 0)
 
 unfoldable pub sessionsOf : List ℕ → ℕ → Bool
 sessionsOf t u = isTable t and ltb u 64 and sessionsFit (state t) u
@@ -62,5 +66,7 @@ pairHoldsOf t n m b = isTable t and ltb n 32 and pairHolds (state t) n m b
 unfoldable pub staticSetsOf : List ℕ → Bool
 staticSetsOf t = isTable t and staticSetsHold (state t)
 
-unfoldable pub sessionsHoldOf : List ℕ → Bool
-sessionsHoldOf t = isTable t and sessionsHold (state t)
+-- the same of every session, with the masks of all in the order of the table, and its active roles are authorised for it
+unfoldable pub sessionsWithin : List ℕ → List ℕ → Bool
+sessionsWithin t masks =
+    isTable t and all 32 (λ s. leb (state t .owner s) 64 and each (state t .active s) (mayActivate (state t) s) and heldWithin (state t) s (λ x. getD masks (8 * s + x) 0))

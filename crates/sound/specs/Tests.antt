@@ -1,7 +1,7 @@
 -- What the private functions that make up the soundness test answer, item by item. No promise rests on this page: the public
 -- test is held to `sound`, and that these items come to it is proved.
 use Rattle.bits.specs.Words.{ℕ, Bool, not, eqb, leb, _and_, _or_, has, all, pack, _with_}
-use Rattle.bits.specs.Sets.{each, overlap}
+use Rattle.bits.specs.Sets.{each}
 use Rattle.table.specs.State.{State}
 use Rattle.table.specs.Authority.{permission, covers, authorised, mayActivate}
 use Rattle.sound.specs.Answers.{setsFit}
@@ -21,10 +21,6 @@ grantsFit S x = all 64 (λ o. grantFits S x o)
 -- the session's word is at most 64, and its active roles are authorised for it
 unfoldable pub rolesFit : State → ℕ → Bool
 rolesFit S s = leb (S .owner s) 64 and each (S .active s) (λ r. mayActivate S s r)
-
--- each object that s holds in mode x is granted in that mode to one of the roles
-unfoldable pub heldFits : State → ℕ → ℕ → ℕ → Bool
-heldFits S roles s x = each (S .holds s x) (λ o. overlap (S .granted x o) roles)
 
 -- the authorised roles of every user fit the static sets, and the active roles of every session the dynamic ones
 abbrev pub usersSeparate : State → Bool

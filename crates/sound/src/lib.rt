@@ -4,19 +4,21 @@ use table::layout::ASSIGNED;
 use table::layout::DIRECT;
 use table::layout::GRANTED;
 use table::layout::HOLDS;
+use table::layout::MASKS;
 use table::layout::OWNER;
 use table::layout::PERMITTED;
 use table::layout::SETS;
 use table::layout::WORDS;
 ghost use mathlib.Core.Path.{_≡_};
 ghost use Prim.Native.Nat.{_+_, _≤_, _<_};
-ghost use lib.ListN.{length};
+ghost use lib.ListN.{length, getD};
 ghost use Rattle.bits.specs.Words.{eqb, has, all};
 ghost use Rattle.table.specs.Separation.{badPair, fewer, staticHolds, dynamicHolds, pairsGood, separated};
+ghost use Rattle.table.specs.Masks.{masksTrue};
 ghost use Rattle.table.specs.Reading.{word, state};
 ghost use Rattle.table.specs.Table.{tableLength};
-ghost use Rattle.sound.specs.Answers.{setsFit, isSound, openingsOf, sessionsOf, holdersOf, setsEmptyOf, staticFitOf, dynamicFitOf, pairHoldsOf, staticSetsOf, sessionsHoldOf};
-ghost use Rattle.sound.specs.Tests.{roleFits, grantFits, grantsFit, rolesFit, heldFits, usersSeparate, sessionsSeparate};
+ghost use Rattle.sound.specs.Answers.{setsFit, isSound, heldWithin, openingsWithin, sessionsOf, holdersOf, setsEmptyOf, staticFitOf, dynamicFitOf, pairHoldsOf, staticSetsOf, sessionsWithin};
+ghost use Rattle.sound.specs.Tests.{roleFits, grantFits, grantsFit, rolesFit, usersSeparate, sessionsSeparate};
 
 // Whether the direct juniors of role r and all their juniors, r not among them, are with r its juniors.
 fn role_fits(t: &[u64], r: usize) -> bool
@@ -87,16 +89,30 @@ fn roles_fit(t: &[u64], s: usize) -> bool
     bits::subset(active, table::authorised_roles(t, user))
 }
 
-// Whether each object that session s holds in mode x is granted in that mode to one of the roles.
-fn held_fits(t: &[u64], roles: u64, s: usize, x: usize) -> bool
-    requires { ⌜ (length (now t) ≡ tableLength) × ((s < 32) × (x < 8)) ⌝ }
-    ensures { λ b. ⌜ b ≡ heldFits (state (now (t .entry))) roles s x ⌝ }
+// Whether all that session s holds open is in the eight masks from the place at on.
+fn holds_within(t: &[u64], s: usize, masks: &[u64], at: usize) -> bool
+    requires { ⌜ (length (now t) ≡ tableLength) × (s < 32) × (at + 8 ≤ length (now masks)) ⌝ }
+    ensures { λ b. ⌜ b ≡ heldWithin (state (now (t .entry))) s (λ x. getD (now (masks .entry)) (at + x) 0) ⌝ }
 {
-    let mut left = t[HOLDS + 8 * s + x];
-    while left != 0 {
-        let o = bits::lowest(left);
-        left = bits::rest(left);
-        if !bits::overlap(t[GRANTED + 64 * x + o], roles) {
+    for x in 0..8 {
+        if !bits::subset(t[HOLDS + 8 * s + x], masks[at + x]) {
+            return false;
+        }
+    }
+    true
+}
+
+// Whether the masks are those of what each session may open: nothing, where no session has an active role.
+fn masks_true(t: &[u64]) -> bool
+    requires { ⌜ length (now t) ≡ tableLength ⌝ }
+    ensures { λ b. ⌜ b ≡ masksTrue (state (now (t .entry))) ⌝ }
+{
+    if words_empty(t, ACTIVE, 32) {
+        return words_empty(t, MASKS, 256);
+    }
+    let masks = masks::all_masks(t);
+    for i in 0..256 {
+        if t[MASKS + i] != masks[i] {
             return false;
         }
     }
@@ -311,13 +327,15 @@ pub fn is_sound(t: &[u64]) -> bool
                 break 'test false;
             }
         }
+        if !masks_true(t) {
+            break 'test false;
+        }
         for s in 0..32 {
             if !roles_fit(t, s) {
                 break 'test false;
             }
-            let roles = table::covered_roles(t, t[ACTIVE + s]);
             for x in 0..8 {
-                if !held_fits(t, roles, s, x) {
+                if !bits::subset(t[HOLDS + 8 * s + x], t[MASKS + 8 * s + x]) {
                     break 'test false;
                 }
             }
@@ -326,9 +344,9 @@ pub fn is_sound(t: &[u64]) -> bool
     }
 }
 
-// Whether all that session s holds open is effective for it.
-pub fn openings_fit(t: &[u64], s: usize) -> bool
-    ensures { λ b. ⌜ b ≡ openingsOf (now (t .entry)) s ⌝ }
+// Whether all that session s holds open is in the eight masks.
+pub fn openings_within(t: &[u64], s: usize, masks: &[u64; 8]) -> bool
+    ensures { λ b. ⌜ b ≡ openingsWithin (now (t .entry)) s (now (masks .entry)) ⌝ }
 {
     if t.len() != WORDS {
         return false;
@@ -336,16 +354,7 @@ pub fn openings_fit(t: &[u64], s: usize) -> bool
     if 31 < s {
         return false;
     }
-    let roles = table::covered_roles(t, t[ACTIVE + s]);
-    for x in 0..8 {
-        if !bits::subset(t[HOLDS + 8 * s + x], t[PERMITTED + x]) {
-            return false;
-        }
-        if !held_fits(t, roles, s, x) {
-            return false;
-        }
-    }
-    true
+    holds_within(t, s, masks, 0)
 }
 
 // Whether the active roles of every session of user u are authorised for u.
@@ -394,9 +403,9 @@ pub fn holders_fit(t: &[u64], x: usize, o: usize) -> bool
     true
 }
 
-// Whether the active roles of every session are authorised for it, and all that it holds open is effective.
-pub fn sessions_hold(t: &[u64]) -> bool
-    ensures { λ b. ⌜ b ≡ sessionsHoldOf (now (t .entry)) ⌝ }
+// Whether the active roles of every session are authorised for it, and all that it holds open is in its eight of the masks.
+pub fn sessions_hold(t: &[u64], masks: &[u64; 256]) -> bool
+    ensures { λ b. ⌜ b ≡ sessionsWithin (now (t .entry)) (now (masks .entry)) ⌝ }
 {
     if t.len() != WORDS {
         return false;
@@ -405,7 +414,7 @@ pub fn sessions_hold(t: &[u64]) -> bool
         if !roles_fit(t, s) {
             return false;
         }
-        if !openings_fit(t, s) {
+        if !holds_within(t, s, masks, 8 * s) {
             return false;
         }
     }

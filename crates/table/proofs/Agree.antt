@@ -11,19 +11,21 @@ use borrow.Author.Tests.{eqb-false}
 use Rattle.bits.specs.Words.{_and_, upd, has}
 use Rattle.bits.specs.Sets.{some}
 use Rattle.bits.proofs.Truth.{by-truth, same-truth}
+use Rattle.bits.proofs.Word.{pack-cong}
 use Rattle.bits.proofs.Members.{some-cong}
 use Rattle.bits.proofs.Tabulate.{tabulate-cong}
 use Rattle.closure.specs.Closure.{closure}
 use Rattle.table.specs.State.{State}
 use Rattle.table.specs.Authority.{senior, permission, idle, user, covers, authorised, mayActivate, effective}
-use Rattle.table.specs.Changes.{setAssigned, setGranted, setOwner, setActive, setHolds, setSets, setSeniority, withAssigned, withGranted, withOwner, withActive, withHolds, withSet, withDirect}
+use Rattle.table.specs.Changes.{setAssigned, setGranted, setOwner, setActive, setHolds, setSets, setSeniority, setMasks, withAssigned, withGranted, withOwner, withActive, withHolds, withSet, withDirect, withMasks}
 use Rattle.table.specs.Seniority.{Linked}
 use Rattle.table.specs.Separation.{separated, Separated}
-use Rattle.table.specs.Sound.{sound, Sound}
+use Rattle.table.specs.Masks.{maskOf, refreshed, MasksTrue}
+use Rattle.table.specs.Sound.{ruled, sound, Ruled}
 use Rattle.table.proofs.State.{may-activate-idle, may-activate-busy}
 use Rattle.table.proofs.Seniority.{linked-closure, linked-agree}
 use Rattle.table.proofs.Separation.{separated-elim, separated-intro, separated-less}
-use Rattle.table.proofs.Sound.{sound-elim, sound-intro}
+use Rattle.table.proofs.Sound.{ruled-elim, ruled-intro, sound-ruled, sound-masks, sound-intro}
 use Rattle.table.proofs.Upd.{row-agree, grid-agree}
 use Rattle.table.proofs.Encode.{encode-cong, agreed}
 pub use Rattle.table.proofs.Upd.{upd-same, upd-other, by-upd, upd-own, grid-same, by-grid, upd-agree}
@@ -51,6 +53,7 @@ module _ {S S′ : State} (a : Agree S S′) where
     holds = a .holds;
     sets = a .sets;
     direct = a .direct;
+    masks = a .masks;
   }
 
   pub agree-set-granted : {f g : ℕ → ℕ → ℕ} → ((x o : ℕ) → x < 8 → o < 64 → f x o ≡ g x o) → Agree (setGranted S f) (setGranted S′ g)
@@ -64,6 +67,7 @@ module _ {S S′ : State} (a : Agree S S′) where
     holds = a .holds;
     sets = a .sets;
     direct = a .direct;
+    masks = a .masks;
   }
 
   pub agree-set-owner : {f g : ℕ → ℕ} → ((s : ℕ) → s < 32 → f s ≡ g s) → Agree (setOwner S f) (setOwner S′ g)
@@ -77,6 +81,7 @@ module _ {S S′ : State} (a : Agree S S′) where
     holds = a .holds;
     sets = a .sets;
     direct = a .direct;
+    masks = a .masks;
   }
 
   pub agree-set-active : {f g : ℕ → ℕ} → ((s : ℕ) → s < 32 → f s ≡ g s) → Agree (setActive S f) (setActive S′ g)
@@ -90,6 +95,7 @@ module _ {S S′ : State} (a : Agree S S′) where
     holds = a .holds;
     sets = a .sets;
     direct = a .direct;
+    masks = a .masks;
   }
 
   pub agree-set-holds : {f g : ℕ → ℕ → ℕ} → ((s x : ℕ) → s < 32 → x < 8 → f s x ≡ g s x) → Agree (setHolds S f) (setHolds S′ g)
@@ -103,6 +109,7 @@ module _ {S S′ : State} (a : Agree S S′) where
     holds = e;
     sets = a .sets;
     direct = a .direct;
+    masks = a .masks;
   }
 
   pub agree-set-sets : {f g : ℕ → ℕ} → ((i : ℕ) → i < 64 → f i ≡ g i) → Agree (setSets S f) (setSets S′ g)
@@ -116,6 +123,7 @@ module _ {S S′ : State} (a : Agree S S′) where
     holds = a .holds;
     sets = e;
     direct = a .direct;
+    masks = a .masks;
   }
 
   pub agree-set-seniority : {f g f′ g′ : ℕ → ℕ} → ((r : ℕ) → r < 64 → f r ≡ f′ r) → ((r : ℕ) → r < 64 → g r ≡ g′ r)
@@ -130,6 +138,21 @@ module _ {S S′ : State} (a : Agree S S′) where
     holds = a .holds;
     sets = a .sets;
     direct = d;
+    masks = a .masks;
+  }
+
+  pub agree-set-masks : {f g : ℕ → ℕ → ℕ} → ((s x : ℕ) → s < 32 → x < 8 → f s x ≡ g s x) → Agree (setMasks S f) (setMasks S′ g)
+  agree-set-masks e = record {
+    juniors = a .juniors;
+    permitted = a .permitted;
+    assigned = a .assigned;
+    granted = a .granted;
+    owner = a .owner;
+    active = a .active;
+    holds = a .holds;
+    sets = a .sets;
+    direct = a .direct;
+    masks = e;
   }
 
   -- one word of it
@@ -147,6 +170,9 @@ module _ {S S′ : State} (a : Agree S S′) where
 
   pub agree-with-holds : (s : ℕ) {f g : ℕ → ℕ} → ((x : ℕ) → x < 8 → f x ≡ g x) → Agree (withHolds S s f) (withHolds S′ s g)
   agree-with-holds s {f} {g} e = agree-set-holds (λ p x h l. row-agree (S .holds) (S′ .holds) s p x f g (e x l) (a .holds p x h l))
+
+  pub agree-with-masks : (s : ℕ) {f g : ℕ → ℕ} → ((x : ℕ) → x < 8 → f x ≡ g x) → Agree (withMasks S s f) (withMasks S′ s g)
+  agree-with-masks s {f} {g} e = agree-set-masks (λ p x h l. row-agree (S .masks) (S′ .masks) s p x f g (e x l) (a .masks p x h l))
 
   pub agree-with-set : (n : ℕ) {m m′ b b′ : ℕ} → m ≡ m′ → b ≡ b′ → Agree (withSet S n m b) (withSet S′ n m′ b′)
   agree-with-set n {m} {m′} e d =
@@ -240,9 +266,17 @@ module _ {S S′ : State} (a : Agree S S′) where
   apart f =
       separated-less S S′ f (a .sets) (λ u q h l e. authorised-agree u q h ∙ e) (λ s r hs hr m. ap (λ (w : ℕ). has w r) (a .active s hs) ∙ m)
 
-  -- what agrees with a sound state is sound
-  pub agree-sound : Sound S → Sound S′
-  agree-sound f = record {
+  pub mask-agree : (s x : ℕ) → s < 32 → x < 8 → maskOf S s x ≡ maskOf S′ s x
+  unfolding maskOf
+  mask-agree s x hs hx = pack-cong 64 (λ o ho. effective-agree s x o hs hx ho)
+
+  -- masks worked out anew in states that agree
+  pub agree-refreshed : Agree (refreshed S) (refreshed S′)
+  agree-refreshed = agree-set-masks a mask-agree
+
+  -- what agrees with a state that is sound but for its masks is so too
+  pub agree-ruled : Ruled S → Ruled S′
+  agree-ruled f = record {
     is-reflexive = λ r h. sym (senior-agree r r h) ∙ f .is-reflexive r h;
     is-transitive = λ r q p hr hq hp k l.
         sym (senior-agree r p hr) ∙ f .is-transitive r q p hr hq hp (senior-agree r q hr ∙ k) (senior-agree q p hq ∙ l);
@@ -266,8 +300,21 @@ separated-agree {S} {S′} a =
     (λ e. separated-intro S′ (apart a (separated-elim S e)))
     (λ e. separated-intro S (apart (agree-sym a) (separated-elim S′ e)))
 
+pub ruled-agree : {S S′ : State} → Agree S S′ → ruled S ≡ ruled S′
+ruled-agree {S} {S′} a =
+    same-truth
+    (λ e. ruled-intro S′ (agree-ruled a (ruled-elim S e)))
+    (λ e. ruled-intro S (agree-ruled (agree-sym a) (ruled-elim S′ e)))
+
+agree-true : {S S′ : State} → Agree S S′ → MasksTrue S → MasksTrue S′
+agree-true a f s x hs hx = sym (a .masks s x hs hx) ∙ f s x hs hx ∙ mask-agree a s x hs hx
+
 pub sound-agree : {S S′ : State} → Agree S S′ → sound S ≡ sound S′
 sound-agree {S} {S′} a =
     same-truth
-    (λ e. sound-intro S′ (agree-sound a (sound-elim S e)))
-    (λ e. sound-intro S (agree-sound (agree-sym a) (sound-elim S′ e)))
+    (λ e. sound-intro S′ (agree-ruled a (sound-ruled S e)) (agree-true a (sound-masks S e)))
+    (λ e. let b = agree-sym a in sound-intro S (agree-ruled b (sound-ruled S′ e)) (agree-true b (sound-masks S′ e)))
+
+-- masks that are true are those worked out anew
+pub true-refreshed : (S : State) → MasksTrue S → Agree S (refreshed S)
+true-refreshed S f = agree-set-masks (agree-refl S) {f = S .masks} f

@@ -3,19 +3,20 @@ use Prim.Native.Nat.{ℕ, _+_, _-_, _≤_, _<_}
 use mathlib.Core.Path.{_≡_, sym, ap, _∙_}
 use mathlib.Core.Bool.{true, false}
 use mathlib.Core.List.{List, [], _∷_}
+use native.Mathlib.Nat.{zero-add}
 use lib.Dec.{leb, ltb}
 use lib.ListN.{length, getD}
 use borrow.Author.Tests.{leb-true, le-leb, lt-leb, ltb-true, lt-ltb, le-ltb}
 use Rattle.bits.specs.Words.{_and_, if_then_else_, has, subset, pack, tabulate}
 use Rattle.bits.specs.Sets.{each, overlap}
 use Rattle.bits.proofs.Truth.{clash, is-false, and-intro, and-left, and-right, true-and, false-and, and-false, if-true, if-false}
-use Rattle.bits.proofs.Word.{has-zero, pack-cong, pack-none}
+use Rattle.bits.proofs.Word.{has-zero, has-all, pack-cong, pack-none}
 use Rattle.bits.proofs.Members.{subset-pack, overlap-elim}
 use Rattle.table.specs.State.{State}
 use Rattle.table.specs.Authority.{permission, covers, authorised, mayActivate, effective}
-use Rattle.table.specs.Reading.{state}
+use Rattle.table.specs.Reading.{word, state}
 use Rattle.table.specs.Table.{tableLength, isTable}
-use Rattle.table.specs.Answers.{coveredRoles, authorisedRoles, effectivePermissions, activatable, openable, overlay, clearedFrom}
+use Rattle.table.specs.Answers.{coveredRoles, seniorRoles, authorisedRoles, effectivePermissions, activatable, openable, overlay, clearedFrom}
 use Rattle.table.proofs.State.{effective-is}
 use Rattle.table.proofs.Table.{is-table, table-length}
 use Rattle.bits.proofs.Tabulate.{length-tabulate, getD-tabulate, tabulate-cong}
@@ -33,6 +34,11 @@ granted-none S x roles e =
     let f = overlap-elim (S .granted x o) roles m in
     clash (f .holds) (ap (λ (w : ℕ). has w (f .at)) e ∙ has-zero (f .at))))))
 
+-- where all objects are permissions nothing else is asked
+pub granted-all : (S : State) (x roles : ℕ) → S .permitted x ≡ 18446744073709551615
+    → pack 64 (λ o. overlap (S .granted x o) roles) ≡ pack 64 (λ o. permission S x o and overlap (S .granted x o) roles)
+granted-all S x roles e = pack-cong 64 (λ o h. sym (true-and _ (ap (λ (w : ℕ). has w o) e ∙ has-all o h)))
+
 module _ (t : List ℕ) where
   pub covered-roles-are : (roles : ℕ) → isTable t ≡ true → pack 64 (covers (state t) roles) ≡ coveredRoles t roles
   unfolding coveredRoles
@@ -41,6 +47,14 @@ module _ (t : List ℕ) where
   pub covered-roles-none : (roles : ℕ) → isTable t ≡ false → 0 ≡ coveredRoles t roles
   unfolding coveredRoles
   covered-roles-none roles e = sym (if-false _ _ e)
+
+  pub senior-roles-are : (roles : ℕ) → isTable t ≡ true → pack 64 (λ r. overlap (word t (0 + r)) roles) ≡ seniorRoles t roles
+  unfolding seniorRoles
+  senior-roles-are roles e = pack-cong 64 (λ r h. ap (λ (i : ℕ). overlap (word t i) roles) (zero-add r)) ∙ sym (if-true _ _ e)
+
+  pub senior-roles-none : (roles : ℕ) → isTable t ≡ false → 0 ≡ seniorRoles t roles
+  unfolding seniorRoles
+  senior-roles-none roles e = sym (if-false _ _ e)
 
   pub authorised-roles-are : (u : ℕ) → isTable t and ltb u 64 ≡ true → pack 64 (authorised (state t) u) ≡ authorisedRoles t u
   unfolding authorisedRoles

@@ -9,7 +9,8 @@ use Rattle.bits.specs.Sets.{each, any, some, join}
 use Rattle.closure.specs.Closure.{via, through, closure}
 use Rattle.table.specs.Seniority.{ownClear, closed}
 use Rattle.table.specs.Authority.{covers, authorised, mayActivate, effective}
-use Rattle.table.specs.Sound.{reflexive, transitive, antisymmetric, grantsPermitted, ownersKnown, idleEmpty, activeAuthorised, openingsEffective, rolesSound, sound}
+use Rattle.table.specs.Sound.{reflexive, transitive, antisymmetric, grantsPermitted, ownersKnown, idleEmpty, activeAuthorised, openingsEffective, rolesSound, ruled, sound}
+use Rattle.table.specs.Masks.{maskOf, masksTrue}
 use Rattle.table.specs.Separation.{emptyPair, badPair, fewer, separated}
 use Rattle.table.specs.Reading.{state}
 use Rattle.table.specs.Table.{encode}
@@ -25,8 +26,9 @@ bench = encode (record {
   holds = λ s x. 0;
   sets = λ i. 0;
   direct = λ r. if eqb r 5 then 2 ^ 3 else if eqb r 3 then 2 ^ 1 else 0;
+  masks = λ s x. 0;
 })
 
 bench-sound : sound (state bench) ≡ true
-unfolding bench encode tabulate sound reflexive transitive antisymmetric grantsPermitted ownersKnown idleEmpty activeAuthorised openingsEffective rolesSound separated fewer badPair emptyPair ownClear closed closure through via join pack bit _with_ covers authorised mayActivate effective has all any each some _and_ _or_ _implies_ if_then_else_
+unfolding bench encode tabulate sound ruled masksTrue maskOf reflexive transitive antisymmetric grantsPermitted ownersKnown idleEmpty activeAuthorised openingsEffective rolesSound separated fewer badPair emptyPair ownClear closed closure through via join pack bit _with_ covers authorised mayActivate effective has all any each some _and_ _or_ _implies_ if_then_else_
 bench-sound = refl

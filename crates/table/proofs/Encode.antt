@@ -12,8 +12,8 @@ use borrow.Author.Tests.{eqb-true, eqb-false, ltb-true, ltb-false}
 use Rattle.bits.proofs.Truth.{by-truth}
 use Rattle.table.specs.State.{State}
 use Rattle.bits.specs.Words.{upd, tabulate}
-use Rattle.table.specs.Changes.{withAssigned, withGranted, withOwner, withActive, withHolds, setSets, setSeniority}
-use Rattle.table.specs.Reading.{juniorsAt, permittedAt, assignedAt, grantedAt, ownerAt, activeAt, holdsAt, setsAt, directAt, word, state}
+use Rattle.table.specs.Changes.{withAssigned, withGranted, withOwner, withActive, withHolds, setSets, setSeniority, withMasks}
+use Rattle.table.specs.Reading.{juniorsAt, permittedAt, assignedAt, grantedAt, ownerAt, activeAt, holdsAt, setsAt, directAt, masksAt, word, state}
 use Rattle.table.specs.Table.{tableLength, encode}
 use Rattle.bits.proofs.Tabulate.{length-tabulate, getD-tabulate, tabulate-cong}
 use Rattle.table.proofs.Upd.{upd-same, upd-other, by-upd}
@@ -30,6 +30,7 @@ pub record Agree (S S′ : State) : Type 0 where
   pub holds : (s x : ℕ) → s < 32 → x < 8 → S .holds s x ≡ S′ .holds s x
   pub sets : (i : ℕ) → i < 64 → S .sets i ≡ S′ .sets i
   pub direct : (r : ℕ) → r < 64 → S .direct r ≡ S′ .direct r
+  pub masks : (s x : ℕ) → s < 32 → x < 8 → S .masks s x ≡ S′ .masks s x
 
 -- ---- reading the table of a state
 
@@ -42,8 +43,11 @@ later n f ys i j e =
     ∙ getD-append-add (tabulate n f) ys i 0
 
 module _ (S : State) where
+  abbrev from-masks : List ℕ
+  from-masks = tabulate 256 (λ i. S .masks (i / 8) (i % 8))
+
   abbrev from-direct : List ℕ
-  from-direct = tabulate 64 (S .direct)
+  from-direct = tabulate 64 (S .direct) ++ from-masks
 
   abbrev from-sets : List ℕ
   from-sets = tabulate 64 (S .sets) ++ from-direct
@@ -86,6 +90,9 @@ module _ (S : State) where
   at-sets : (i j : ℕ) → j ≡ 968 + i → getD (encode S) j 0 ≡ getD from-sets i 0
   at-sets i j e = at-holds (256 + i) j (omega arith) ∙ later 256 _ from-sets i (256 + i) refl
 
+  at-direct : (i j : ℕ) → j ≡ 1032 + i → getD (encode S) j 0 ≡ getD from-direct i 0
+  at-direct i j e = at-sets (64 + i) j (omega arith) ∙ later 64 _ from-direct i (64 + i) refl
+
   pub state-encode : Agree (state (encode S)) S
   unfolding encode
   state-encode = record {
@@ -104,7 +111,12 @@ module _ (S : State) where
         ∙ first 256 _ from-sets (8 * s + x) (omega arith)
         ∙ ap₂ (λ (y p : ℕ). S .holds y p) (div-mode s x hx) (mod-mode s x hx);
     sets = λ i h. at-sets i (setsAt i) refl ∙ first 64 _ from-direct i h;
-    direct = λ r h. at-sets (64 + r) (directAt r) (omega arith) ∙ later 64 _ from-direct r (64 + r) refl ∙ getD-tabulate 64 _ 0 r h;
+    direct = λ r h. at-direct r (directAt r) refl ∙ first 64 _ from-masks r h;
+    masks = λ s x hs hx.
+        at-direct (64 + (8 * s + x)) (masksAt s x) (omega arith)
+        ∙ later 64 _ from-masks (8 * s + x) (64 + (8 * s + x)) refl
+        ∙ getD-tabulate 256 _ 0 (8 * s + x) (omega arith)
+        ∙ ap₂ (λ (y p : ℕ). S .masks y p) (div-mode s x hx) (mod-mode s x hx);
   }
     where
       div-row : (x o : ℕ) → o < 64 → (64 * x + o) / 64 ≡ x
@@ -129,8 +141,9 @@ module _ (S : State) where
 by-place : (P : ℕ → Type 0)
     → ((r : ℕ) → r < 64 → P (juniorsAt r)) → ((x : ℕ) → x < 8 → P (permittedAt x)) → ((u : ℕ) → u < 64 → P (assignedAt u))
     → ((x o : ℕ) → x < 8 → o < 64 → P (grantedAt x o)) → ((s : ℕ) → s < 32 → P (ownerAt s)) → ((s : ℕ) → s < 32 → P (activeAt s))
-    → ((s x : ℕ) → s < 32 → x < 8 → P (holdsAt s x)) → ((i : ℕ) → i < 64 → P (setsAt i)) → ((r : ℕ) → r < 64 → P (directAt r)) → (i : ℕ) → i < tableLength → P i
-by-place P j p a g o c h n d i l =
+    → ((s x : ℕ) → s < 32 → x < 8 → P (holdsAt s x)) → ((i : ℕ) → i < 64 → P (setsAt i)) → ((r : ℕ) → r < 64 → P (directAt r))
+    → ((s x : ℕ) → s < 32 → x < 8 → P (masksAt s x)) → (i : ℕ) → i < tableLength → P i
+by-place P j p a g o c h n d m i l =
     on 64 (λ b. j i b) (λ b1.
     on 72 (λ b. subst P (omega arith) (p (i - 64) (omega arith))) (λ b2.
     on 136 (λ b. subst P (omega arith) (a (i - 72) (omega arith))) (λ b3.
@@ -139,7 +152,8 @@ by-place P j p a g o c h n d i l =
     on 712 (λ b. subst P (omega arith) (c (i - 680) (omega arith))) (λ b6.
     on 968 (λ b. subst P (holds-place b6) (h ((i - 712) / 8) ((i - 712) % 8) (omega arith) (omega arith))) (λ b7.
     on 1032 (λ b. subst P (omega arith) (n (i - 968) (omega arith))) (λ b8.
-    subst P (omega arith) (d (i - 1032) (omega arith))))))))))
+    on 1096 (λ b. subst P (omega arith) (d (i - 1032) (omega arith))) (λ b9.
+    subst P (masks-place b9) (m ((i - 1096) / 8) ((i - 1096) % 8) (omega arith) (omega arith)))))))))))
   where
     on : (n : ℕ) → (i < n → P i) → (n ≤ i → P i) → P i
     on n f g = by-truth (ltb i n) (λ e. f (ltb-true i n e)) (λ e. g (ltb-false i n e))
@@ -149,6 +163,9 @@ by-place P j p a g o c h n d i l =
 
     holds-place : 712 ≤ i → holdsAt ((i - 712) / 8) ((i - 712) % 8) ≡ i
     holds-place b = omega arith
+
+    masks-place : 1096 ≤ i → masksAt ((i - 1096) / 8) ((i - 1096) % 8) ≡ i
+    masks-place b = omega arith
 
 pub encode-cong : {S S′ : State} → Agree S S′ → encode S ≡ encode S′
 unfolding encode
@@ -161,7 +178,8 @@ encode-cong {S} {S′} a =
     (ap₂ _++_ (tabulate-cong 32 (a .active))
     (ap₂ _++_ (tabulate-cong 256 (λ i h. a .holds (i / 8) (i % 8) (omega arith) (omega arith)))
     (ap₂ _++_ (tabulate-cong 64 (a .sets))
-    (tabulate-cong 64 (a .direct)))))))))
+    (ap₂ _++_ (tabulate-cong 64 (a .direct))
+    (tabulate-cong 256 (λ i h. a .masks (i / 8) (i % 8) (omega arith) (omega arith)))))))))))
 
 -- states with the same table agree
 pub agreed : {S S′ : State} → encode S ≡ encode S′ → Agree S S′
@@ -175,6 +193,7 @@ agreed {S} {S′} e = record {
   holds = λ s x h k. same (holdsAt s x) (state-encode S .holds s x h k) (state-encode S′ .holds s x h k);
   sets = λ i h. same (setsAt i) (state-encode S .sets i h) (state-encode S′ .sets i h);
   direct = λ r h. same (directAt r) (state-encode S .direct r h) (state-encode S′ .direct r h);
+  masks = λ s x h k. same (masksAt s x) (state-encode S .masks s x h k) (state-encode S′ .masks s x h k);
 }
   where
     same : (i : ℕ) {v w : ℕ} → word (encode S) i ≡ v → word (encode S′) i ≡ w → v ≡ w
@@ -183,7 +202,7 @@ agreed {S} {S′} e = record {
 pub same-table : (t t′ : List ℕ) → length t ≡ tableLength → length t′ ≡ tableLength → Agree (state t) (state t′) → t ≡ t′
 same-table t t′ e e′ a =
     ext-getD 0 t t′ (e ∙ sym e′)
-    (λ i h. by-place (λ k. word t k ≡ word t′ k) (a .juniors) (a .permitted) (a .assigned) (a .granted) (a .owner) (a .active) (a .holds) (a .sets) (a .direct) i (omega arith))
+    (λ i h. by-place (λ k. word t k ≡ word t′ k) (a .juniors) (a .permitted) (a .assigned) (a .granted) (a .owner) (a .active) (a .holds) (a .sets) (a .direct) (a .masks) i (omega arith))
 
 -- the state that a table shows
 pub encode-state : (t : List ℕ) → length t ≡ tableLength → t ≡ encode (state t)
@@ -293,4 +312,12 @@ module _ {t : List ℕ} (S : State) (z : t ≡ encode S) where
   write-direct r v h =
       on (directAt r) v
       ∙ past-granted S (384 + r) (directAt r) v (omega arith) (past 32 _ _ (352 + r) (384 + r) v (omega arith) (past 32 _ _ (320 + r) (352 + r) v (omega arith) (past 256 _ _ (64 + r) (320 + r) v (omega arith)
-      (past 64 _ _ r (64 + r) v refl (set-tabulate 64 _ r v h)))))
+      (past 64 _ _ r (64 + r) v refl (set-first 64 _ _ r v h)))))
+
+  pub write-mask : (s x v : ℕ) → s < 32 → x < 8 → set t (masksAt s x) v ≡ encode (withMasks S s (upd (S .masks s) x v))
+  unfolding encode
+  write-mask s x v hs hx =
+      on (masksAt s x) v
+      ∙ past-granted S (448 + (8 * s + x)) (masksAt s x) v (omega arith) (past 32 _ _ (416 + (8 * s + x)) (448 + (8 * s + x)) v (omega arith) (past 32 _ _ (384 + (8 * s + x)) (416 + (8 * s + x)) v (omega arith) (past 256 _ _ (128 + (8 * s + x)) (384 + (8 * s + x)) v (omega arith)
+      (past 64 _ _ (64 + (8 * s + x)) (128 + (8 * s + x)) v (omega arith) (past 64 _ _ (8 * s + x) (64 + (8 * s + x)) v refl
+      (set-tabulate 256 _ (8 * s + x) v (omega arith) ∙ tabulate-cong 256 (λ i h. by-rows (λ j. j / 8) (λ j. j % 8) (S .masks) (8 * s + x) s x v i (omega arith) (omega arith) (λ p q. omega arith))))))))

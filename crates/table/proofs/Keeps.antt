@@ -7,15 +7,16 @@ use lib.Dec.{eqb}
 use borrow.Author.Tests.{eqb-true, eqb-false}
 use Rattle.bits.specs.Words.{_and_, upd, has}
 use Rattle.bits.specs.Sets.{some}
-use Rattle.bits.proofs.Truth.{clash, by-truth, and-intro, and-left, and-right}
-use Rattle.bits.proofs.Word.{has-zero}
+use Rattle.bits.proofs.Truth.{clash, by-truth, is-false, same-truth, and-intro, and-left, and-right}
+use Rattle.bits.proofs.Word.{has-zero, pack-cong, pack-none}
 use Rattle.bits.proofs.Members.{not-empty}
 use Rattle.table.specs.State.{State}
 use Rattle.table.specs.Authority.{senior, permission, idle, user, covers, authorised, mayActivate, effective}
 use Rattle.table.specs.Changes.{setDirect, withAssigned, withGranted, withOwner, withActive, withHolds, withSet}
 use Rattle.table.specs.Seniority.{Linked}
 use Rattle.table.specs.Separation.{mask, bound, Fewer, GoodPair, Separated}
-use Rattle.table.specs.Sound.{Sound}
+use Rattle.table.specs.Masks.{maskOf}
+use Rattle.table.specs.Sound.{Ruled}
 use Rattle.table.proofs.State.{authorised-intro, authorised-elim, effective-intro, effective-elim, may-activate-busy}
 use Rattle.table.proofs.Agree.{upd-same, upd-other, by-upd, grid-same, by-grid}
 use Rattle.table.proofs.Seniority.{closedRow, closure-linked, linked-reflexive, linked-transitive}
@@ -78,6 +79,22 @@ module _ (S S′ : State) (j : (r q : ℕ) → r < 64 → q < 64 → senior S r 
 -- nothing is effective for a session without active roles
 pub no-roles-none-effective : (S : State) (s x o : ℕ) → S .active s ≡ 0 → effective S s x o ≡ true → ⊥
 no-roles-none-effective S s x o z e = let f = effective-elim S s x o e in not-empty (S .active s) (f .role) (f .active-in) z
+
+pub no-roles-mask : (S : State) (s x : ℕ) → S .active s ≡ 0 → maskOf S s x ≡ 0
+unfolding maskOf
+no-roles-mask S s x z = pack-none 64 (λ o h. is-false (no-roles-none-effective S s x o z))
+
+-- permissions and grants of a session that hang on the same members
+module _ (S S′ : State) (j : S .juniors ≡ S′ .juniors) (p : S .permitted ≡ S′ .permitted) where
+  pub mask-same : (s x : ℕ) → ((o r : ℕ) → o < 64 → r < 64 → has (S .granted x o) r ≡ has (S′ .granted x o) r)
+      → ((r : ℕ) → r < 64 → has (S .active s) r ≡ has (S′ .active s) r) → maskOf S s x ≡ maskOf S′ s x
+  unfolding maskOf
+  mask-same s x g a =
+      pack-cong 64 (λ o ho. same-truth
+      (effective-more S S′ (λ r q hr hq e. sym (ap (λ (f : ℕ → ℕ). has (f r) q) j) ∙ e) s x o p
+      (λ r hr e. sym (g o r ho hr) ∙ e) (λ r hr e. sym (a r hr) ∙ e))
+      (effective-more S′ S (λ r q hr hq e. ap (λ (f : ℕ → ℕ). has (f r) q) j ∙ e) s x o (sym p)
+      (λ r hr e. g o r ho hr ∙ e) (λ r hr e. a r hr ∙ e)))
 
 -- ---- what keeps the sets
 
@@ -164,12 +181,12 @@ module _ (S : State) (f : Separated S) where
 
 -- ---- what keeps a state sound
 
-module _ (S : State) (f : Sound S) where
+module _ (S : State) (f : Ruled S) where
   -- the openings of session s: each is effective
   pub holds-keeps : (s : ℕ) (w : ℕ → ℕ)
       → ((x o : ℕ) → x < 8 → o < 64 → has (w x) o ≡ true → effective S s x o ≡ true)
       → ((x : ℕ) → x < 8 → idle S s ≡ true → w x ≡ 0)
-      → Sound (withHolds S s w)
+      → Ruled (withHolds S s w)
   unfolding covers authorised mayActivate effective
   holds-keeps s w k z = record {
     is-reflexive = f .is-reflexive;
@@ -195,7 +212,7 @@ module _ (S : State) (f : Sound S) where
       → (idle S s ≡ true → w ≡ 0)
       → ((x o : ℕ) → x < 8 → o < 64 → has (S .holds s x) o ≡ true → effective (withActive S s w) s x o ≡ true)
       → Separated (withActive S s w)
-      → Sound (withActive S s w)
+      → Ruled (withActive S s w)
   unfolding covers authorised mayActivate
   active-keeps s w k z l d = record {
     is-reflexive = f .is-reflexive;
@@ -225,7 +242,7 @@ module _ (S : State) (f : Sound S) where
   pub assigned-keeps : (u w : ℕ)
       → ((s r : ℕ) → s < 32 → r < 64 → S .owner s ≡ suc u → has (S .active s) r ≡ true → authorised (withAssigned S u w) u r ≡ true)
       → Separated (withAssigned S u w)
-      → Sound (withAssigned S u w)
+      → Ruled (withAssigned S u w)
   unfolding effective
   assigned-keeps u w k d = record {
     is-reflexive = f .is-reflexive;
@@ -258,7 +275,7 @@ module _ (S : State) (f : Sound S) where
   pub granted-keeps : (x o w : ℕ)
       → ((r : ℕ) → r < 64 → has w r ≡ true → permission S x o ≡ true)
       → ((s : ℕ) → s < 32 → has (S .holds s x) o ≡ true → effective (withGranted S x o w) s x o ≡ true)
-      → Sound (withGranted S x o w)
+      → Ruled (withGranted S x o w)
   unfolding covers authorised mayActivate
   granted-keeps x o w k l = record {
     is-reflexive = f .is-reflexive;
@@ -285,7 +302,7 @@ module _ (S : State) (f : Sound S) where
       S′ = withGranted S x o w
 
   -- an idle session is given to user u
-  pub start-keeps : (s u : ℕ) → s < 32 → u < 64 → idle S s ≡ true → Sound (withOwner S s (suc u))
+  pub start-keeps : (s u : ℕ) → s < 32 → u < 64 → idle S s ≡ true → Ruled (withOwner S s (suc u))
   unfolding effective
   start-keeps s u hs hu i = record {
     is-reflexive = f .is-reflexive;
@@ -312,7 +329,7 @@ module _ (S : State) (f : Sound S) where
           (λ e y. ap (λ (n : ℕ). idle S n) e ∙ i) (λ n y. y) z
 
   -- session s is made idle, without roles and openings
-  pub end-keeps : (s : ℕ) → Sound (withHolds (withActive (withOwner S s 0) s 0) s (λ x. 0))
+  pub end-keeps : (s : ℕ) → Ruled (withHolds (withActive (withOwner S s 0) s 0) s (λ x. 0))
   end-keeps s = record {
     is-reflexive = f .is-reflexive;
     is-transitive = f .is-transitive;
@@ -348,7 +365,7 @@ module _ (S : State) (f : Sound S) where
       → ((s r : ℕ) → s < 32 → r < 64 → has (S .active s) r ≡ true → mayActivate S′ s r ≡ true)
       → ((s x o : ℕ) → s < 32 → x < 8 → o < 64 → has (S .holds s x) o ≡ true → effective S′ s x o ≡ true)
       → Separated S′
-      → Sound S′
+      → Ruled S′
   direct-keeps d o w a e k = record {
     is-reflexive = linked-reflexive l;
     is-transitive = linked-transitive l;

@@ -3,6 +3,7 @@ pub mod State
 pub mod Upd
 pub mod Seniority
 pub mod Separation
+pub mod Masks
 pub mod Sound
 pub mod Claims
 pub mod Agree
@@ -10,5 +11,5 @@ pub mod Keeps
 pub mod Table
 pub mod Encode
 pub mod Answers
-pub mod Relinking
+pub mod Overlaying
 pub mod Bench

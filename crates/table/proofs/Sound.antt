@@ -1,6 +1,6 @@
--- Soundness and its plain facts: each from the other. Nothing else opens the definition. Assumes nothing.
+-- Soundness and its plain facts: each from the other, with the masks and without them. Nothing else opens the definition. Assumes nothing.
 use Prim.Native.Nat.{ℕ, _<_}
-use mathlib.Core.Path.{_≡_, refl}
+use mathlib.Core.Path.{_≡_, refl, sym, ap₂, _∙_}
 use mathlib.Core.Bool.{true}
 use lib.Dec.{eqb}
 use borrow.Author.Tests.{eqb-true, eq-eqb, leb-true, le-leb}
@@ -10,12 +10,14 @@ use Rattle.bits.proofs.Below.{all-intro, all-elim}
 use Rattle.bits.proofs.Members.{each-intro, each-elim}
 use Rattle.table.specs.State.{State}
 use Rattle.table.specs.Authority.{senior, idle, covers, authorised, mayActivate, effective}
-use Rattle.table.specs.Changes.{setSets}
+use Rattle.table.specs.Changes.{setSets, setMasks}
 use Rattle.table.specs.Seniority.{ownClear, closed}
 use Rattle.table.specs.Separation.{separated}
-use Rattle.table.specs.Sound.{reflexive, transitive, antisymmetric, grantsPermitted, ownersKnown, idleEmpty, activeAuthorised, openingsEffective, rolesSound, sound, Sound}
+use Rattle.table.specs.Sound.{reflexive, transitive, antisymmetric, grantsPermitted, ownersKnown, idleEmpty, activeAuthorised, openingsEffective, rolesSound, ruled, sound, Ruled}
 use Rattle.table.proofs.Seniority.{linked-elim, own-clear-intro, closed-intro}
+use Rattle.table.specs.Masks.{maskOf, masksTrue, refreshed, MasksTrue}
 use Rattle.table.proofs.Separation.{separated-elim, separated-intro}
+use Rattle.table.proofs.Masks.{masks-elim, masks-intro, refreshed-true}
 
 module _ (S : State) where
   pub reflexive-elim : reflexive S ≡ true → (r : ℕ) → r < 64 → senior S r r ≡ true
@@ -27,9 +29,9 @@ module _ (S : State) where
   unfolding transitive
   transitive-elim e r q p hr hq hp a b = each-elim _ _ (each-elim _ _ (all-elim _ 64 e r hr) q hq a) p hp b
 
-  pub sound-elim : sound S ≡ true → Sound S
-  unfolding sound rolesSound reflexive transitive antisymmetric grantsPermitted ownersKnown idleEmpty activeAuthorised openingsEffective
-  sound-elim e =
+  pub ruled-elim : ruled S ≡ true → Ruled S
+  unfolding ruled rolesSound reflexive transitive antisymmetric grantsPermitted ownersKnown idleEmpty activeAuthorised openingsEffective
+  ruled-elim e =
       let e1 = and-left (rolesSound S) _ e in
       let e2 = and-right (reflexive S) _ e1 in
       let e3 = and-right (transitive S) _ e2 in
@@ -59,9 +61,9 @@ module _ (S : State) where
         is-separated = separated-elim S (and-right (rolesSound S) _ e);
       }
 
-  pub sound-intro : Sound S → sound S ≡ true
-  unfolding sound rolesSound reflexive transitive antisymmetric grantsPermitted ownersKnown idleEmpty activeAuthorised openingsEffective
-  sound-intro f =
+  pub ruled-intro : Ruled S → ruled S ≡ true
+  unfolding ruled rolesSound reflexive transitive antisymmetric grantsPermitted ownersKnown idleEmpty activeAuthorised openingsEffective
+  ruled-intro f =
       and-intro
       (and-intro (all-intro _ 64 (f .is-reflexive))
       (and-intro (all-intro _ 64 (λ r hr. each-intro _ _ (λ q hq a. each-intro _ _ (λ p hp b. f .is-transitive r q p hr hq hp a b))))
@@ -80,8 +82,26 @@ module _ (S : State) where
       (and-intro (own-clear-intro S (f .is-linked)) (closed-intro S (f .is-linked)))))))))))
       (separated-intro S (f .is-separated))
 
+  -- ---- with the masks
+
+  pub sound-ruled : sound S ≡ true → Ruled S
+  unfolding sound
+  sound-ruled e = ruled-elim (and-left (ruled S) _ e)
+
+  pub sound-masks : sound S ≡ true → MasksTrue S
+  unfolding sound
+  sound-masks e = masks-elim S (and-right (ruled S) _ e)
+
+  pub sound-intro : Ruled S → MasksTrue S → sound S ≡ true
+  unfolding sound
+  sound-intro f m = and-intro (ruled-intro f) (masks-intro S m)
+
 -- what 01 asks and the links, and the sets
-pub sound-is : (S : State) → sound S ≡ rolesSound S and separated S
+pub ruled-is : (S : State) → ruled S ≡ rolesSound S and separated S
+unfolding ruled
+ruled-is S = refl
+
+pub sound-is : (S : State) → sound S ≡ ruled S and masksTrue S
 unfolding sound
 sound-is S = refl
 
@@ -89,3 +109,24 @@ sound-is S = refl
 pub sets-roles-sound : (S : State) (f : ℕ → ℕ) → rolesSound (setSets S f) ≡ rolesSound S
 unfolding rolesSound reflexive transitive antisymmetric grantsPermitted ownersKnown idleEmpty activeAuthorised openingsEffective ownClear closed covers authorised mayActivate effective
 sets-roles-sound S f = refl
+
+-- nor do 01 and the sets ask anything of the masks
+pub masks-roles-sound : (S : State) (f : ℕ → ℕ → ℕ) → rolesSound (setMasks S f) ≡ rolesSound S
+unfolding rolesSound reflexive transitive antisymmetric grantsPermitted ownersKnown idleEmpty activeAuthorised openingsEffective ownClear closed covers authorised mayActivate effective
+masks-roles-sound S f = refl
+
+pub masks-separated : (S : State) (f : ℕ → ℕ → ℕ) → separated (setMasks S f) ≡ separated S
+unfolding separated covers authorised
+masks-separated S f = refl
+
+-- a state that is sound but for its masks stays so with other masks, and with its masks worked out anew it is sound
+pub masks-ruled : {S : State} (f : ℕ → ℕ → ℕ) → Ruled S → Ruled (setMasks S f)
+masks-ruled {S} f g =
+    ruled-elim (setMasks S f) (ruled-is _ ∙ ap₂ _and_ (masks-roles-sound S f) (masks-separated S f) ∙ sym (ruled-is S) ∙ ruled-intro S g)
+
+pub ruled-masks : {S : State} (f : ℕ → ℕ → ℕ) → Ruled (setMasks S f) → Ruled S
+ruled-masks {S} f g =
+    ruled-elim S (ruled-is S ∙ ap₂ _and_ (sym (masks-roles-sound S f)) (sym (masks-separated S f)) ∙ sym (ruled-is _) ∙ ruled-intro (setMasks S f) g)
+
+pub refreshed-sound : {S : State} → Ruled S → sound (refreshed S) ≡ true
+refreshed-sound {S} f = sound-intro (refreshed S) (masks-ruled (maskOf S) f) (refreshed-true S)

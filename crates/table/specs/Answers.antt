@@ -1,6 +1,7 @@
 -- What the public functions answer, for a list of any length and any number: nothing of a list that is no table, nor of a
 -- user, session, mode or object that there is not.
 use Rattle.bits.specs.Words.{ℕ, _+_, _-_, Bool, List, leb, ltb, length, getD, _and_, if_then_else_, pack, tabulate}
+use Rattle.bits.specs.Sets.{overlap}
 use Rattle.table.specs.Authority.{covers, authorised, mayActivate, effective}
 use Rattle.table.specs.Table.{isTable}
 use Rattle.table.specs.Reading.{state}
@@ -8,6 +9,10 @@ use Rattle.table.specs.Reading.{state}
 -- the roles and all their juniors
 unfoldable pub coveredRoles : List ℕ → ℕ → ℕ
 coveredRoles t roles = if isTable t then pack 64 (covers (state t) roles) else 0
+
+-- the roles that are senior to one of the roles, or are one
+unfoldable pub seniorRoles : List ℕ → ℕ → ℕ
+seniorRoles t roles = if isTable t then pack 64 (λ r. overlap (state t .juniors r) roles) else 0
 
 -- the authorised roles of user u
 unfoldable pub authorisedRoles : List ℕ → ℕ → ℕ

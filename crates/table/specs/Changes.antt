@@ -15,6 +15,7 @@ setAssigned S f = record {
   holds = S .holds;
   sets = S .sets;
   direct = S .direct;
+  masks = S .masks;
 }
 
 abbrev pub setGranted : State → (ℕ → ℕ → ℕ) → State
@@ -28,6 +29,7 @@ setGranted S f = record {
   holds = S .holds;
   sets = S .sets;
   direct = S .direct;
+  masks = S .masks;
 }
 
 abbrev pub setOwner : State → (ℕ → ℕ) → State
@@ -41,6 +43,7 @@ setOwner S f = record {
   holds = S .holds;
   sets = S .sets;
   direct = S .direct;
+  masks = S .masks;
 }
 
 abbrev pub setActive : State → (ℕ → ℕ) → State
@@ -54,6 +57,7 @@ setActive S f = record {
   holds = S .holds;
   sets = S .sets;
   direct = S .direct;
+  masks = S .masks;
 }
 
 abbrev pub setHolds : State → (ℕ → ℕ → ℕ) → State
@@ -67,6 +71,7 @@ setHolds S f = record {
   holds = f;
   sets = S .sets;
   direct = S .direct;
+  masks = S .masks;
 }
 
 abbrev pub setSets : State → (ℕ → ℕ) → State
@@ -80,6 +85,7 @@ setSets S f = record {
   holds = S .holds;
   sets = f;
   direct = S .direct;
+  masks = S .masks;
 }
 
 abbrev pub setSeniority : State → (ℕ → ℕ) → (ℕ → ℕ) → State
@@ -93,6 +99,21 @@ setSeniority S f g = record {
   holds = S .holds;
   sets = S .sets;
   direct = g;
+  masks = S .masks;
+}
+
+abbrev pub setMasks : State → (ℕ → ℕ → ℕ) → State
+setMasks S f = record {
+  juniors = S .juniors;
+  permitted = S .permitted;
+  assigned = S .assigned;
+  granted = S .granted;
+  owner = S .owner;
+  active = S .active;
+  holds = S .holds;
+  sets = S .sets;
+  direct = S .direct;
+  masks = f;
 }
 
 -- the direct juniors, and with them the juniors: their closure
@@ -122,3 +143,7 @@ withSet S n m b = setSets S (upd (upd (S .sets) (2 * n) m) (2 * n + 1) b)
 -- the direct juniors of role r, and the closure of all
 abbrev pub withDirect : State → ℕ → ℕ → State
 withDirect S r w = setDirect S (upd (S .direct) r w)
+
+-- the eight masks of session s, one a mode
+abbrev pub withMasks : State → ℕ → (ℕ → ℕ) → State
+withMasks S s f = setMasks S (upd (S .masks) s f)

@@ -1,13 +1,14 @@
 -- What is claimed of the definitions themselves, each as the answer to a question. proofs/Claims.antt proves them.
 use mathlib.Core.Logic.{_↔_}
-use Rattle.bits.specs.Words.{ℕ, _^_, _<_, _≡_, true}
+use Rattle.bits.specs.Words.{ℕ, _^_, _<_, _≡_, true, has}
 use Rattle.table.specs.State.{State}
 use Rattle.bits.specs.Sets.{_without_}
 use Rattle.closure.specs.Closure.{Reaches}
 use Rattle.table.specs.Authority.{senior, authorised, effective, Authorised, Effective}
 use Rattle.table.specs.Seniority.{links, Linked}
 use Rattle.table.specs.Separation.{separated, Separated}
-use Rattle.table.specs.Sound.{reflexive, transitive, sound, Sound}
+use Rattle.table.specs.Masks.{refreshed}
+use Rattle.table.specs.Sound.{reflexive, transitive, ruled, sound, Sound}
 
 -- When is a role authorised for a user? Exactly when some role assigned to the user is senior to it or is it.
 abbrev pub AuthorisedMeans : Type 0
@@ -36,3 +37,11 @@ SeparatedMeans = (S : State) → separated S ≡ true ↔ Separated S
 -- When is a state sound? Exactly when all the facts of `Sound` hold.
 abbrev pub SoundMeans : Type 0
 SoundMeans = (S : State) → sound S ≡ true ↔ Sound S
+
+-- What does a mask of a sound state say? Its members are exactly the objects that are effective for the session in the mode (02, S-6).
+abbrev pub MaskMeans : Type 0
+MaskMeans = (S : State) (s x o : ℕ) → sound S ≡ true → s < 32 → x < 8 → o < 64 → has (S .masks s x) o ≡ true ↔ Effective S s x o
+
+-- Which masks does a state need that is sound but for them? Those worked out from it (02, S-6).
+abbrev pub RefreshedSound : Type 0
+RefreshedSound = (S : State) → ruled S ≡ true → sound (refreshed S) ≡ true

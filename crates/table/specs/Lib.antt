@@ -3,9 +3,10 @@ pub mod State
 pub mod Authority
 pub mod Seniority
 pub mod Separation
+pub mod Changes
+pub mod Masks
 pub mod Sound
 pub mod Claims
 pub mod Table
 pub mod Reading
-pub mod Changes
 pub mod Answers

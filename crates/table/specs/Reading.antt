@@ -32,6 +32,9 @@ setsAt i = 968 + i
 abbrev pub directAt : ℕ → ℕ
 directAt r = 1032 + r
 
+abbrev pub masksAt : ℕ → ℕ → ℕ
+masksAt s x = 1096 + 8 * s + x
+
 -- ---- the state that a table shows
 
 abbrev pub word : List ℕ → ℕ → ℕ
@@ -48,4 +51,5 @@ state t = record {
   holds = λ s x. word t (holdsAt s x);
   sets = λ i. word t (setsAt i);
   direct = λ r. word t (directAt r);
+  masks = λ s x. word t (masksAt s x);
 }

@@ -6,6 +6,7 @@ use Rattle.table.specs.State.{State}
 use Rattle.table.specs.Authority.{senior, permission, idle, mayActivate, effective}
 use Rattle.table.specs.Seniority.{ownClear, closed, Linked}
 use Rattle.table.specs.Separation.{separated, Separated}
+use Rattle.table.specs.Masks.{masksTrue, MasksTrue}
 
 -- seniority is reflexive, transitive and has no two different roles each senior to the other
 unfoldable pub reflexive : State → Bool
@@ -51,12 +52,17 @@ rolesSound S =
     and ownClear S
     and closed S
 
--- 02, S-4: "Soundness includes all sets and that no pair is one of error 21"
-unfoldable pub sound : State → Bool
-sound S = rolesSound S and separated S
+-- with it 02, S-4: "Soundness includes all sets and that no pair is one of error 21"; all but the masks, which follow from the rest
+unfoldable pub ruled : State → Bool
+ruled S = rolesSound S and separated S
 
--- the same, as plain facts of the users, roles, modes, objects and sessions that there are
-pub record Sound (S : State) : Type 0 where
+-- 02, S-6: "a table where they are not [true] is unsound"
+unfoldable pub sound : State → Bool
+sound S = ruled S and masksTrue S
+
+-- ---- the same, as plain facts of the users, roles, modes, objects and sessions that there are
+
+pub record Ruled (S : State) : Type 0 where
   pub is-reflexive : (r : ℕ) → r < 64 → senior S r r ≡ true
   pub is-transitive : (r q p : ℕ) → r < 64 → q < 64 → p < 64
       → senior S r q ≡ true → senior S q p ≡ true → senior S r p ≡ true
@@ -69,3 +75,7 @@ pub record Sound (S : State) : Type 0 where
   pub openings-effective : (s x o : ℕ) → s < 32 → x < 8 → o < 64 → has (S .holds s x) o ≡ true → effective S s x o ≡ true
   pub is-linked : Linked (S .juniors) (S .direct)
   pub is-separated : Separated S
+
+pub record Sound (S : State) : Type 0 where
+  pub is-ruled : Ruled S
+  pub masks-true : MasksTrue S

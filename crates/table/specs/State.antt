@@ -11,3 +11,4 @@ pub record State : Type 0 where
   pub holds : ℕ → ℕ → ℕ  -- of session s and mode x: the objects that s holds open in mode x
   pub sets : ℕ → ℕ  -- of separation set n, 0 to 15 static, 16 to 31 dynamic (02, S-4): at 2 n its roles, at 2 n + 1 its bound
   pub direct : ℕ → ℕ  -- of role r: its direct juniors as given, without r (02, S-5)
+  pub masks : ℕ → ℕ → ℕ  -- of session s and mode x: the objects that s may open in mode x (02, S-6)

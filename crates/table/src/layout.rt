@@ -1,5 +1,5 @@
 // Where the sections of the table start, and its length.
-pub const WORDS: usize = 1096;
+pub const WORDS: usize = 1352;
 
 pub const PERMITTED: usize = 64;
 
@@ -16,3 +16,5 @@ pub const HOLDS: usize = 712;
 pub const SETS: usize = 968;
 
 pub const DIRECT: usize = 1032;
+
+pub const MASKS: usize = 1096;

@@ -8,15 +8,15 @@ use layout::OWNER;
 use layout::PERMITTED;
 use layout::WORDS;
 ghost use mathlib.Core.Path.{_≡_};
-ghost use Prim.Native.Nat.{_<_};
+ghost use Prim.Native.Nat.{_+_, _≤_, _<_};
 ghost use lib.ListN.{length};
-ghost use Rattle.bits.specs.Words.{_and_, pack};
+ghost use Rattle.bits.specs.Words.{_and_, has, pack};
 ghost use Rattle.bits.specs.Sets.{some, overlap};
 ghost use Rattle.table.specs.Authority.{permission, covers};
-ghost use Rattle.table.specs.Reading.{state};
+ghost use Rattle.table.specs.Reading.{word, state};
 ghost use Rattle.table.specs.Table.{tableLength};
 ghost use Rattle.table.specs.Answers;
-ghost use Rattle.table.specs.Answers.{coveredRoles, authorisedRoles, effectivePermissions, activatable, openable, clearedFrom};
+ghost use Rattle.table.specs.Answers.{coveredRoles, seniorRoles, authorisedRoles, effectivePermissions, activatable, openable, clearedFrom};
 
 // The roles and all their juniors.
 fn juniors_of(t: &[u64], roles: u64) -> u64
@@ -56,16 +56,38 @@ pub fn authorised_roles(t: &[u64], u: usize) -> u64
     juniors_of(t, t[ASSIGNED + u])
 }
 
-// The permissions of mode x that are granted to one of the roles.
-fn granted_objects(t: &[u64], roles: u64, x: usize) -> u64
-    requires { ⌜ (length (now t) ≡ tableLength) × (x < 8) ⌝ }
-    ensures { λ r. ⌜ r ≡ pack 64 (λ o. permission (state (now (t .entry))) x o and overlap (state (now (t .entry)) .granted x o) roles) ⌝ }
+// The places of those of the 64 words from the place at on that have a member of the set, from the last word down.
+fn meeting(t: &[u64], at: usize, set: u64) -> u64
+    requires { ⌜ (length (now t) ≡ tableLength) × (at + 64 ≤ tableLength) ⌝ }
+    ensures { λ r. ⌜ r ≡ pack 64 (λ i. overlap (word (now (t .entry)) (at + i)) set) ⌝ }
 {
-    if roles == 0 {
+    let mut found: u64 = 0;
+    for k in 0..64 {
+        found = found + found;
+        if bits::overlap(t[at + (63 - k)], set) {
+            found = found + 1;
+        }
+    }
+    found
+}
+
+// The roles that are senior to one of the roles, or are one; none where this is no table.
+pub fn senior_roles(t: &[u64], roles: u64) -> u64
+    ensures { λ r. ⌜ r ≡ seniorRoles (now (t .entry)) roles ⌝ }
+{
+    if t.len() != WORDS {
         return 0;
     }
+    meeting(t, 0, roles)
+}
+
+// Those of the objects whose permission of mode x is granted to one of the roles.
+fn granted_among(t: &[u64], objects: u64, roles: u64, x: usize) -> u64
+    requires { ⌜ (length (now t) ≡ tableLength) × (x < 8) ⌝ }
+    ensures { λ r. ⌜ r ≡ pack 64 (λ o. has objects o and overlap (state (now (t .entry)) .granted x o) roles) ⌝ }
+{
     let mut found: u64 = 0;
-    let mut left = t[PERMITTED + x];
+    let mut left = objects;
     while left != 0 {
         let o = bits::lowest(left);
         left = bits::rest(left);
@@ -74,6 +96,22 @@ fn granted_objects(t: &[u64], roles: u64, x: usize) -> u64
         }
     }
     found
+}
+
+// The permissions of mode x that are granted to one of the roles. (Where all objects are permissions, as in a label table, going
+// straight through them takes half the time of the walk over members.)
+fn granted_objects(t: &[u64], roles: u64, x: usize) -> u64
+    requires { ⌜ (length (now t) ≡ tableLength) × (x < 8) ⌝ }
+    ensures { λ r. ⌜ r ≡ pack 64 (λ o. permission (state (now (t .entry))) x o and overlap (state (now (t .entry)) .granted x o) roles) ⌝ }
+{
+    if roles == 0 {
+        return 0;
+    }
+    let permitted = t[PERMITTED + x];
+    if permitted == u64::MAX {
+        return meeting(t, GRANTED + 64 * x, roles);
+    }
+    granted_among(t, permitted, roles, x)
 }
 
 // The effective permissions of session s, the objects of each mode; none where there is no such session.

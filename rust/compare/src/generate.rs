@@ -105,7 +105,8 @@ impl Layer {
 }
 
 /// The case with many arguments fitted to the table at their step: the roles of starts and separation sets to what users are
-/// authorised for or sessions have active, openings to what is effective, and links to what is linked and what hangs on it.
+/// authorised for or sessions have active, openings to what is effective, drops and revokes to what is there, links to what is
+/// linked and what hangs on it, and damage of masks to what they have.
 fn fitted(random: &mut Random, world: &World, steps: Vec<Step>) -> Case {
     let mut case = Case(steps);
     let mut run = Run::default();
@@ -115,6 +116,13 @@ fn fitted(random: &mut Random, world: &World, steps: Vec<Step>) -> Case {
                 (*mode, *object) = choose_opening(random, &run.table, *session).unwrap_or((*mode, *object));
             }
             Step::Role([3, _, user, roles]) => choose_roles(random, world, &run.table, *user, roles),
+            Step::Role([6, session, role, _]) if !world.worded && random.chance(30) => {
+                let active = pairs(run.table.get(680..712).unwrap_or(&[]));
+                (*session, *role) = one_of(random, active.into_iter()).unwrap_or((*session, *role));
+            }
+            Step::Role([10, role, mode, object]) if !world.worded && random.chance(50) => {
+                (*role, *mode, *object) = choose_grant(random, &run.table).unwrap_or((*role, *mode, *object));
+            }
             Step::Role([11, _, mask, bound]) if random.chance(75) => {
                 let roles = authorised(&run.table, random.one(&world.users));
                 (*mask, *bound) = pair_near(random, world, roles, roles);
@@ -125,6 +133,10 @@ fn fitted(random: &mut Random, world: &World, steps: Vec<Step>) -> Case {
             }
             Step::Role([code @ (13 | 14), senior, junior, _]) => {
                 (*senior, *junior) = choose_link(random, world, &run.table, *code).unwrap_or((*senior, *junior));
+            }
+            Step::Flip(at, bit) if *at >= MASKS as usize && random.chance(50) => {
+                let mask = run.table.get(*at).copied().unwrap_or(0);
+                *bit = one_of(random, members(mask)).unwrap_or(*bit);
             }
             _ => {}
         }
@@ -149,8 +161,19 @@ fn seat(table: &[u64], session: usize) -> [u64; 2] {
 fn choose_opening(random: &mut Random, table: &[u64], session: u64) -> Option<(u64, u64)> {
     let mut masks = [0; 8];
     (PLAIN.effective_permissions)(table, session, &mut masks);
-    let effective = pairs(&masks);
-    (!effective.is_empty()).then(|| random.one(&effective))
+    one_of(random, pairs(&masks).into_iter())
+}
+
+/// A role with the mode and the object of a pair that it is granted; none where there is none.
+fn choose_grant(random: &mut Random, table: &[u64]) -> Option<(u64, u64, u64)> {
+    let (at, role) = one_of(random, pairs(table.get(136..648)?).into_iter())?;
+    Some((role, at / 64, at % 64))
+}
+
+/// One of the things; none where there is none.
+fn one_of<T: Copy>(random: &mut Random, things: impl Iterator<Item = T>) -> Option<T> {
+    let things: Vec<T> = things.collect();
+    (!things.is_empty()).then(|| random.one(&things))
 }
 
 /// Each place in the list with each member of the word there.
@@ -158,21 +181,29 @@ fn pairs(words: &[u64]) -> Vec<(u64, u64)> {
     (0..).zip(words).flat_map(|(at, word)| members(*word).map(move |member| (at, member))).collect()
 }
 
-/// Often a link that a separation set keeps from being made, or that a session keeps from being taken away, where there is one;
-/// to be taken away else mostly any link that is there. None where the link is left as it was.
+/// Often a link that a separation set keeps from being made, or that a session keeps from being taken away, or one that changes
+/// masks, where there is one; to be taken away else mostly any link that is there. None where the link is left as it was.
 fn choose_link(random: &mut Random, world: &World, table: &[u64], code: u64) -> Option<(u64, u64)> {
     if table.len() != WORDS {
         return None;
     }
-    let mut links = if code == 13 { open_links(world, table) } else { pairs(&table[LINKS as usize..]) };
-    let is_kept = |(r, q): &(u64, u64)| (PLAIN.role_request)(&mut table.to_vec(), code, *r, *q, 0) == 0;
+    let first = MASKS as usize;
+    let mut links = if code == 13 { open_links(world, table) } else { pairs(&table[LINKS as usize..first]) };
+    let made = |(r, q): &(u64, u64)| {
+        let mut after = table.to_vec();
+        ((PLAIN.role_request)(&mut after, code, *r, *q, 0), after)
+    };
+    let is_kept = |link: &(u64, u64)| made(link).0 == 0;
+    let changes_masks = |link: &(u64, u64)| made(link).1[first..] != table[first..];
     let choice = random.below(10);
     if choice < 4 && links.iter().any(is_kept) {
         links.retain(is_kept);
+    } else if choice == 4 && links.iter().any(changes_masks) {
+        links.retain(changes_masks);
     } else if code == 13 || choice > 7 {
         return None;
     }
-    (!links.is_empty()).then(|| random.one(&links))
+    one_of(random, links.into_iter())
 }
 
 /// Pairs of the case's roles of which the second is not the first and not above it.
@@ -370,8 +401,11 @@ const SETS: u64 = 968;
 /// Where the direct juniors begin.
 const LINKS: u64 = 1032;
 
+/// Where the masks begin.
+const MASKS: u64 = 1096;
+
 /// Where each section of the table begins, and its end.
-const SECTIONS: [u64; 10] = [0, 64, 72, 136, 648, 680, 712, SETS, LINKS, WORDS as u64];
+const SECTIONS: [u64; 11] = [0, 64, 72, 136, 648, 680, 712, SETS, LINKS, MASKS, WORDS as u64];
 
 /// A place in a random section.
 fn place(random: &mut Random) -> usize {
@@ -391,8 +425,8 @@ fn damage(random: &mut Random) -> Step {
 
 /// Another length of the table, mostly near the right one.
 fn wrong_length(random: &mut Random) -> Step {
-    let [sets, links] = [SETS, LINKS].map(|first| first as usize);
-    Step::Length(random.one(&[0, 1, 72, sets, links, WORDS - 1, WORDS - 1, WORDS + 1, WORDS + 1, 5000]))
+    let [sets, links, masks] = [SETS, LINKS, MASKS].map(|first| first as usize);
+    Step::Length(random.one(&[0, 1, 72, sets, links, masks, WORDS - 1, WORDS - 1, WORDS + 1, WORDS + 1, 5000]))
 }
 
 /// A whole pair of one of the 32 sets: a few of the case's roles, and a bound of 2 or 3.
@@ -426,6 +460,13 @@ fn circle(one: u64, other: u64, third: u64) -> Vec<Step> {
     [fresh].into_iter().chain(rows).chain(links).collect()
 }
 
+/// One bit of a mask turned, of a session of the case or of any.
+fn mask_put(random: &mut Random, world: &World) -> Vec<Step> {
+    let session = if random.chance(80) { random.one(&world.sessions) } else { random.below(32) };
+    let at = MASKS + 8 * session + random.one(&world.modes);
+    vec![Step::Flip(at as usize, random.one(&world.objects))]
+}
+
 /// A table that comes into use, and rounds of requests, a copy kept, and what is done to the table then.
 fn in_rounds(random: &mut Random, disturb: impl Fn(&mut Random, &World, Layer) -> Vec<Step>) -> Case {
     let world = World::new(random);
@@ -442,9 +483,10 @@ fn in_rounds(random: &mut Random, disturb: impl Fn(&mut Random, &World, Layer) -
 /// A table in use that is damaged, called and restored, several times over. Role requests meet label tables too.
 pub fn damaged(random: &mut Random) -> Case {
     in_rounds(random, |random, world, layer| {
-        let damages = match random.below(10) {
-            0 | 1 => pair_put(random, world),
-            2..=4 => links_put(random, world, layer),
+        let damages = match random.below(14) {
+            0..=2 => pair_put(random, world),
+            3..=6 => links_put(random, world, layer),
+            7..=9 => mask_put(random, world),
             _ => list(random, 3, |random| match random.below(6) {
                 0 => wrong_length(random),
                 1 => any_call(random, world),

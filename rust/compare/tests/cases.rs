@@ -118,6 +118,15 @@ const LINKS: &str = "
     !role 14 5 1 0; !role 13 5 3 0; !role 14 5 1 0; !role 14 3 1 0; close 0 9 0; !role 14 3 1 0
     activate 0 1; !role 13 3 1 0; activate 0 1; !role 14 3 1 0";
 
+/// Openings that follow what grants, active roles and links give, also to sessions that the request does not name.
+const MASKS: &str = "
+    roles; above 5 3; above 3 1; permit 0 9; run
+    grant 1 0 9; assign 2 5; start 0 2 32; start 1 2 8; open 1 9 0; revoke 1 0 9; close 1 9 0; revoke 1 0 9
+    open 0 9 0; open 1 9 0; grant 3 0 9; open 0 9 0; drop 0 5; activate 0 3; drop 0 5
+    end 0; open 0 9 0; start 0 2 0; open 0 9 0
+    assign 4 7; start 3 4 128; open 3 9 0; !role 13 7 3 0; open 3 9 0; !role 14 7 3 0; close 3 9 0; !role 14 7 3 0; open 3 9 0
+    open 1 9 0";
+
 /// Rows as the program writes them.
 fn numbered(first: u64, rows: Vec<[u64; 2]>) -> impl Iterator<Item = String> {
     (first..).zip(rows).map(|(number, [answer, spent])| format!("{number}\t{answer}\t{spent}"))
@@ -127,7 +136,7 @@ fn numbered(first: u64, rows: Vec<[u64; 2]>) -> impl Iterator<Item = String> {
 fn rows_of_the_program_cases() {
     let source = [SOURCE, DERIVED].join("\n");
     let played = [(100, case(BENCH)), (200, case(&source)), (300, case(LISTING)), (400, case(CONFUSED))];
-    let chosen = [(700, case(CHOSEN)), (800, case(SETS)), (900, case(LINKS))];
+    let chosen = [(700, case(CHOSEN)), (800, case(SETS)), (900, case(LINKS)), (950, case(MASKS))];
     for guard in guards() {
         let mut rows: Vec<String> = Vec::new();
         for (first, case) in &played {
@@ -234,7 +243,7 @@ fn calls() -> [(Step, Vec<u64>, Vec<u64>); 7] {
 #[test]
 fn case_j_other_lengths() {
     for guard in guards() {
-        for words in [0, 968, 1032, 1095, WORDS, 1097] {
+        for words in [0, 968, 1032, 1096, 1351, WORDS, 1353] {
             let mut run = after(guard, "lattice; clear 5 31; run; start 3 5 9");
             run.step(guard, &Step::Keep);
             run.step(guard, &Step::Length(words));
@@ -250,7 +259,7 @@ fn case_j_other_lengths() {
     }
 }
 
-/// Makes a role start, which with yes writes the session's user and roles.
+/// Makes a role start, which with yes writes the session's user and roles, and its masks.
 fn start(run: &mut Run, guard: &Guard, [session, user, roles]: [u64; 3], answer: u64) {
     let at = session as usize;
     ask(run, guard, [3, session, user, roles], answer, &[(648 + at, user + 1), (680 + at, roles)]);

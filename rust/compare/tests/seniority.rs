@@ -3,7 +3,7 @@
 
 mod common;
 
-use common::{after, ask, expect};
+use common::{after, ask, expect, MASKS};
 use compare::{damaged, guards, links, watch, Case, Guard, Random, Run, Step, PLAIN, WORDS};
 use std::collections::BTreeMap;
 
@@ -235,7 +235,7 @@ fn without(table: &[u64], places: impl Iterator<Item = usize>, [code, a, b, c]: 
 /// What a link answered yes or no came to. Whether a set keeps it from being made does not hang on sessions.
 fn kind_of_link(before: &[u64], asked: [u64; 4], answer: u64, after: &[u64]) -> &'static str {
     let [_, senior, junior, _] = asked;
-    let others = (72..136).filter(|at| !has(before[*at], senior)).chain(648..968);
+    let others = (72..136).filter(|at| !has(before[*at], senior)).chain(648..968).chain(MASKS..WORDS);
     match answer {
         1 if before == after => "link, there already",
         1 if before[..64] == after[..64] => "link, an indirect junior already",
@@ -271,7 +271,7 @@ fn closure(direct: &[u64]) -> Vec<u64> {
 
 /// What is wrong with the links of a table that a call refuses, where it is the links alone.
 fn kind_of_fault(table: &[u64], step: &Step, answer: u64) -> Option<&'static str> {
-    let (rows, direct) = (&table[..64], &table[DIRECT..]);
+    let (rows, direct) = (&table[..64], &table[DIRECT..MASKS]);
     let reached = closure(direct);
     let mut mended = table.to_vec();
     (0..64).for_each(|role| mended[DIRECT + role] = rows[role] & !(1 << role));

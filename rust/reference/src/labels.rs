@@ -219,6 +219,7 @@ impl Machine {
             let roles = turn!("wrong-start-reads-only", [level.read_role(), level.write_role()], [level.read_role()]);
             state.active.extend(roles.map(|r| (*s, r)));
         }
+        turn!("wrong-image-without-masks", state.refresh(), ());
         state
     }
 

@@ -8,6 +8,7 @@
 //! comparison of two labels alone takes no words, and answers with a number of its own or a refusal.
 
 mod labels;
+mod masks;
 mod requests;
 mod seniority;
 mod separation;

@@ -102,7 +102,10 @@ impl State {
             }
             _ => {}
         }
-        let next = self.after(request);
+        let mut next = self.after(request);
+        next.refresh();
+        #[cfg(feature = "wrong-turn")]
+        next.spoil_masks(self, request);
         let yes = self.allows(request, &next);
         if yes {
             *self = turn!("wrong-unlink-keeps-rows", next, self.with_old_rows(request, next));
@@ -112,6 +115,28 @@ impl State {
         #[cfg(feature = "wrong-link-left")]
         self.leave_link(request);
         Ok(yes)
+    }
+
+    /// Leaves the masks of some sessions as they were before the request, for the wrong turns, or takes a pair from all of them.
+    #[cfg(feature = "wrong-turn")]
+    fn spoil_masks(&mut self, before: &State, request: Request) {
+        let first = self.masks.difference(&before.masks).next().map(|(s, _, _)| *s);
+        let is_left = |s: Session| match request {
+            _ if cfg!(feature = "wrong-last-session-masks") => s == SESSIONS - 1,
+            Request::Start(started, ..) => cfg!(feature = "wrong-start-masks-early") && s == started,
+            Request::Activate(named, _) => cfg!(feature = "wrong-activate-masks-early") && s == named,
+            Request::End(ended) => cfg!(feature = "wrong-end-keeps-masks") && s == ended,
+            Request::Grant(..) if cfg!(feature = "wrong-grant-one-session") => Some(s) != first,
+            Request::Grant(r, ..) => cfg!(feature = "wrong-grant-without-seniors") && !before.active.contains(&(s, r)),
+            Request::Link(..) => cfg!(feature = "wrong-link-keeps-masks"),
+            Request::Unlink(..) => cfg!(feature = "wrong-unlink-keeps-masks"),
+            _ => false,
+        };
+        self.masks.retain(|(s, _, _)| !is_left(*s));
+        self.masks.extend(before.masks.iter().filter(|(s, _, _)| is_left(*s)));
+        if let (Request::Revoke(_, x, o), true) = (request, cfg!(feature = "wrong-revoke-takes-all")) {
+            self.masks.retain(|(_, mode, object)| (*mode, *object) != (x, o));
+        }
     }
 
     /// Leaves the bound of a set whatever the answer was, for the wrong turn.
@@ -145,20 +170,26 @@ impl State {
 
     /// The column "yes when".
     fn allows(&self, request: Request, next: &State) -> bool {
+        let is_sound = || turn!("wrong-judged-with-old-masks", next.is_sound(), next.with_masks_of(self).is_sound());
         match request {
-            Request::Open(s, o, x) => self.effective(s).contains(&(x, o)),
+            Request::Open(s, o, x) => self.masks.contains(&(s, x, o)),
             Request::Start(s, u, mask) => self.is_idle(s) && self.are_authorised(u, mask) && next.is_separated(),
             Request::End(s) => !self.is_idle(s),
             Request::Activate(s, r) => self.authorised_for(s).contains(&r) && next.is_separated(),
             Request::Assign(..) => next.is_separated(),
-            Request::Deassign(..) => turn!("wrong-deassign-direct", next.is_sound(), !self.has_active(request)),
-            Request::Drop(..) | Request::Revoke(..) | Request::StaticSet(..) | Request::DynamicSet(..) => {
-                next.is_sound()
-            }
+            Request::Deassign(..) => turn!("wrong-deassign-direct", is_sound(), !self.has_active(request)),
+            Request::Drop(..) => turn!("wrong-drop-by-old-masks", is_sound(), self.openings.is_subset(&self.masks)),
+            Request::Revoke(..) | Request::StaticSet(..) | Request::DynamicSet(..) => is_sound(),
             Request::Link(r, q) => self.may_link(r, q, next),
             Request::Unlink(r, q) => self.may_unlink(r, q, next),
             Request::Close(..) | Request::Grant(..) => true,
         }
+    }
+
+    /// The state with the masks of another, for the wrong turn.
+    #[cfg(feature = "wrong-judged-with-old-masks")]
+    fn with_masks_of(&self, other: &State) -> State {
+        State { masks: other.masks.clone(), ..self.clone() }
     }
 
     /// Whether every role of the mask is authorised for the user.

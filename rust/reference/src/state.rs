@@ -38,6 +38,8 @@ pub struct State {
     pub active: BTreeSet<(Session, Role)>,
     /// (s, x, o): session s holds object o open in mode x.
     pub openings: BTreeSet<(Session, Mode, Object)>,
+    /// (s, x, o): (x, o) is kept as effective for session s.
+    pub masks: BTreeSet<(Session, Mode, Object)>,
     /// The static sets by their numbers; a number whose pair is empty is not there.
     pub static_sets: BTreeMap<u64, Separation>,
     /// The dynamic sets, likewise.
@@ -82,7 +84,7 @@ impl State {
     }
 
     /// The active roles of a session.
-    fn active_in(&self, s: Session) -> BTreeSet<Role> {
+    pub fn active_in(&self, s: Session) -> BTreeSet<Role> {
         seconds(&self.active, s).collect()
     }
 
@@ -95,7 +97,11 @@ impl State {
     /// The permissions granted to an active role of a session or to a junior of one.
     pub fn effective(&self, s: Session) -> BTreeSet<(Mode, Object)> {
         let covered = |r| turn!("wrong-permissions-from-seniors", self.juniors(r), self.seniors(r));
-        let roles: BTreeSet<Role> = seconds(&self.active, s).flat_map(covered).collect();
+        self.granted_to(&seconds(&self.active, s).flat_map(covered).collect())
+    }
+
+    /// The permissions granted to one of the roles.
+    pub fn granted_to(&self, roles: &BTreeSet<Role>) -> BTreeSet<(Mode, Object)> {
         let granted = self.granted.iter().filter(|(_, _, r)| roles.contains(r));
         let pairs = granted.map(|(x, o, _)| (*x, *o));
         pairs.filter(|pair| self.permissions.contains(pair)).collect()
@@ -118,6 +124,7 @@ impl State {
             && (0..SESSIONS).all(|s| self.is_session_sound(s))
             && self.pairs_are_good()
             && self.is_separated()
+            && self.masks_are_true()
     }
 
     fn is_reflexive(&self) -> bool {

@@ -1,7 +1,8 @@
 //! The table of words: reading it into sets, and writing sets into it.
 
 use crate::separation::Separation;
-use crate::state::{State, MODES, OBJECTS, ROLES, SESSIONS, SETS, USERS};
+use crate::state::{Mode, Session, State, MODES, OBJECTS, ROLES, SESSIONS, SETS, USERS};
+use crate::turns::turn;
 use std::collections::BTreeMap;
 
 const PERMITTED: u64 = ROLES;
@@ -13,9 +14,10 @@ const HOLDS: u64 = ACTIVE + SESSIONS;
 const STATIC: u64 = HOLDS + SESSIONS * MODES;
 const DYNAMIC: u64 = STATIC + 2 * SETS;
 const DIRECT: u64 = DYNAMIC + 2 * SETS;
+const MASKS: u64 = DIRECT + ROLES;
 
 /// The number of words of a table.
-pub const WORDS: usize = (DIRECT + ROLES) as usize;
+pub const WORDS: usize = (MASKS + SESSIONS * MODES) as usize;
 
 /// Refusal 12: the table has not its number of words.
 pub fn is_table(words: &[u64]) -> Result<(), u64> {
@@ -87,8 +89,22 @@ fn put(state: &mut State, at: u64, member: u64) {
         GRANTED..OWNER => state.granted.insert(((at - GRANTED) / OBJECTS, (at - GRANTED) % OBJECTS, member)),
         ACTIVE..HOLDS => state.active.insert((at - ACTIVE, member)),
         HOLDS..STATIC => state.openings.insert(((at - HOLDS) / MODES, (at - HOLDS) % MODES, member)),
-        _ => state.direct.insert((at - DIRECT, member)),
+        DIRECT..MASKS => state.direct.insert((at - DIRECT, member)),
+        _ => {
+            let (s, x) = mask_of(at - MASKS);
+            state.masks.insert((s, x, member))
+        }
     };
+}
+
+/// The session and the mode of a mask: the eight of a session together, the sessions in order.
+fn mask_of(place: u64) -> (Session, Mode) {
+    turn!("wrong-masks-by-mode", (place / MODES, place % MODES), (place % SESSIONS, place / SESSIONS))
+}
+
+/// The place of a session's mask of a mode.
+fn place_of(s: Session, x: Mode) -> u64 {
+    turn!("wrong-masks-by-mode", MODES * s + x, SESSIONS * x + s)
 }
 
 /// Writes the words that say what the state does.
@@ -104,6 +120,7 @@ pub fn write(state: &State, words: &mut [u64]) {
     state.static_sets.iter().for_each(|(k, set)| write_set(words, STATIC + 2 * k, set));
     state.dynamic_sets.iter().for_each(|(k, set)| write_set(words, DYNAMIC + 2 * k, set));
     state.direct.iter().for_each(|(r, q)| add(words, DIRECT + r, *q));
+    state.masks.iter().for_each(|(s, x, o)| add(words, MASKS + place_of(*s, *x), *o));
 }
 
 /// Writes the mask and the bound of a set.

@@ -84,6 +84,35 @@
 //! # }
 //! ```
 //!
+//! # What each session may open
+//!
+//! A table keeps the effective permissions of each session, so that who reads a backup need not gather them: every request
+//! answered yes leaves them true, and a table where they are not is [`Refusal::Unsound`]. [`sessions`] tests a table and reads
+//! them, with the user, the active roles and the openings of each session. The example `backup` prints this for a file. A grant
+//! is felt at once by every session that has the role or one above it:
+//!
+//! ```
+//! use sheetguard::{role_request, sessions, set_up_roles, Answer, Refusal, RoleRequest, WORDS};
+//!
+//! # fn main() -> Result<(), Refusal> {
+//! let (lead, weighs) = (7, 1);
+//! let mut juniors = [0; 64];
+//! juniors[lead as usize] = 1 << weighs;
+//! let mut table = [0; WORDS];
+//! set_up_roles(&mut table, &juniors, &[1 << 9; 8])?;
+//! for request in [
+//!     RoleRequest::Assign { user: 2, role: lead },
+//!     RoleRequest::Start { session: 0, user: 2, roles: 1 << lead },
+//!     RoleRequest::Grant { role: weighs, mode: 0, object: 9 },
+//! ] {
+//!     assert_eq!(role_request(&mut table, request)?, Answer::Yes);
+//! }
+//! let may_open = sessions(&table)?[0].map(|session| session.may_open[0]);
+//! assert_eq!(may_open, Some(1 << 9));
+//! # Ok(())
+//! # }
+//! ```
+//!
 //! # Labels
 //!
 //! A label is `class * 8 + brand set`: a class 0 to 3, and a set of three brands, worth 1, 2 and 4. Label a *dominates* b
@@ -126,13 +155,15 @@
 mod label;
 pub mod numbers;
 mod request;
+mod session;
 
 pub use label::{Label, Standing};
 pub use request::{LabelRequest, RoleRequest};
+pub use session::{sessions, Session};
 use std::fmt::{self, Display, Formatter};
 
 /// The number of words of a table.
-pub const WORDS: usize = 1096;
+pub const WORDS: usize = 1352;
 
 /// The answer to a request that is not refused.
 #[derive(Clone, Copy, Debug, PartialEq, Eq)]
@@ -158,7 +189,7 @@ pub struct Reply {
 #[derive(Clone, Copy, Debug, PartialEq, Eq)]
 #[non_exhaustive]
 pub enum Refusal {
-    /// 12: the table has not 1,096 words.
+    /// 12: the table has not 1,352 words.
     WrongLength,
     /// 13: the table is not sound.
     Unsound,
@@ -221,7 +252,7 @@ impl Refusal {
     /// The number and the reason.
     fn row(self) -> (u64, &'static str) {
         match self {
-            Refusal::WrongLength => (12, "the table has not 1,096 words"),
+            Refusal::WrongLength => (12, "the table has not 1,352 words"),
             Refusal::Unsound => (13, "the table is not sound"),
             Refusal::NoImage => (14, "the table is the image of no machine state"),
             Refusal::BadCode => (15, "there is no request of this code"),
@@ -395,7 +426,8 @@ pub fn alike(first: &[u64], second: &[u64]) -> Result<bool, Refusal> {
     answer_of(numbers::alike(first, second)).map(|answer| answer == Answer::Yes)
 }
 
-/// The effective permissions of a session, a word of objects for each mode; those of an idle session are none.
+/// The effective permissions of a session, a word of objects for each mode; those of an idle session are none. [`sessions`]
+/// has those of all sessions.
 ///
 /// # Errors
 /// [`Refusal::WrongLength`], [`Refusal::Unsound`], [`Refusal::BadArgument`].

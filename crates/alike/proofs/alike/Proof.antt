@@ -67,7 +67,12 @@ alike-spec =
     (λ c κs. search needs)
     returns-4
     (λ c. passed-none)
-    (λ c κs. search needs)
+    (λ c κs.
+    let second = c .before .before in
+    let told = second .before .before .before in
+    let first-sound = confirmed (told .before .is-sound .ensures) (told .if2 .left) in
+    let second-sound = confirmed (second .before .is-sound2 .ensures) (second .if4 .left) in
+    search (needs, first-sound, second-sound))
     returns-5
     (λ c. search needs)
     (λ c. search needs)

@@ -6,6 +6,7 @@ use Rattle.bits.specs.Words.{_with_}
 use Rattle.table.specs.Changes.{withDirect}
 use Rattle.table.specs.Reading.{state}
 use Rattle.table.specs.Table.{encode}
+use Rattle.masks.proofs.Refreshing.{all-refreshed}
 use Rattle.sound.proofs.Answers.{static-sets-shown}
 use Rattle.links.specs.Links.{mayLink, afterLink}
 use Rattle.links.proofs.Links.{not-itself, not-back, link-left, on-table, off-table, off-senior, off-junior, answer-no, answer-yes, put-back}
@@ -56,10 +57,13 @@ told c =
 returns-6 : tie.Need-returns-6
 unfolding afterLink
 returns-6 c =
-    let held = c .before in
+    let masks = c .before .before .before .before in
+    let held = masks .before .before .before .before in
     let a = held .before .before .before .before .before .before .before .before .before .before .before .before .before .before .before .before .before .before .args in
-    answer-yes (a .t .now) (a .r) (state (a .t .now) .direct (a .r) with a .q) (sym (told held) ∙ c .if6 .taken)
-    (held .before .before .before .before .relink .ensures ∙ ap (λ (w : ℕ). encode (withDirect (state (a .t .now)) (a .r) w)) (held .before .before .before .before .before .with .ensures))
+    answer-yes (a .t .now) (a .r) (state (a .t .now) .direct (a .r) with a .q) (sym (told held) ∙ masks .before .before .before .if6 .taken)
+    (c .before .before .overlay .ensures
+    ∙ all-refreshed _ (held .before .before .before .before .relink .ensures ∙ ap (λ (w : ℕ). encode (withDirect (state (a .t .now)) (a .r) w)) (held .before .before .before .before .before .with .ensures))
+    (masks .all-masks .ensures) (search needs))
 
 returns-7 : tie.Need-returns-7
 unfolding afterLink
@@ -88,6 +92,9 @@ link-spec =
     (λ c. search needs)
     (λ c κs. search needs)
     (λ c κs. search needs)
+    (λ c κs. search needs)
+    (λ c κs. search needs)
+    (λ c. search needs)
     (λ c κs. search needs)
     (λ c. search needs)
     returns-6

@@ -4,7 +4,7 @@ use mathlib.Core.Path.{_∙_}
 use lib.ListN.{length-set}
 use Rattle.table.specs.Reading.{directAt, state}
 use Rattle.table.proofs.Encode.{encode-state, write-direct}
-use Rattle.table.proofs.Relinking.{write-juniors}
+use Rattle.table.proofs.Overlaying.{write-juniors}
 use Rattle.links.proofs.write_seniority.Statement.{statement}
 use Rattle.links.proofs.write_seniority.Tie as tie
 

@@ -7,8 +7,8 @@ use borrow.Author.Tests.{not-true, not-false}
 use Rattle.table.specs.Reading.{assignedAt, state}
 use Rattle.table.proofs.Encode.{encode-state, write-assigned}
 use Rattle.sound.proofs.Sets.{static-told}
-use Rattle.roles.specs.Roles.{changed}
-use Rattle.roles.specs.Guard.{allowedSound}
+use Rattle.roles.specs.Roles.{moved}
+use Rattle.roles.specs.Guard.{allowedSound, changedSound}
 use Rattle.roles.proofs.Serving.{serve-yes, serve-no}
 use Rattle.roles.proofs.assign.Statement.{statement}
 use Rattle.roles.proofs.assign.Tie as tie
@@ -21,7 +21,7 @@ returns c =
     serve-no (static-told (start .args .t .now) (start .pre .whole) _ (more .with .ensures) (c .before .static-fit .ensures) ∙ not-true _ (c .if1 .taken)) refl
 
 returns-2 : tie.Need-returns-2
-unfolding allowedSound changed
+unfolding allowedSound changedSound moved
 returns-2 c =
     let more = c .before .before .before in
     let start = more .before .before .before in

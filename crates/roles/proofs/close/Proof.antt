@@ -5,14 +5,14 @@ use mathlib.Core.Path.{refl, ap, _∙_}
 use lib.ListN.{set}
 use Rattle.table.specs.Reading.{holdsAt, state}
 use Rattle.table.proofs.Encode.{encode-state, write-holds}
-use Rattle.roles.specs.Roles.{changed}
-use Rattle.roles.specs.Guard.{allowedSound}
+use Rattle.roles.specs.Roles.{moved}
+use Rattle.roles.specs.Guard.{allowedSound, changedSound}
 use Rattle.roles.proofs.Serving.{serve-yes}
 use Rattle.roles.proofs.close.Statement.{statement}
 use Rattle.roles.proofs.close.Tie as tie
 
 returns : tie.Need-returns
-unfolding allowedSound changed
+unfolding allowedSound changedSound moved
 returns c =
     let start = c .before .before .before in
     let a = start .args in

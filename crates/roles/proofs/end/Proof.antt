@@ -7,11 +7,10 @@ use lib.ListN.{length-set}
 use borrow.Author.Tests.{eq-eqb, ne-eqb}
 use Rattle.bits.proofs.Truth.{not-intro}
 use Rattle.table.specs.Reading.{state}
-use Rattle.table.proofs.Encode.{encode-state, write-owner, write-active}
-use Rattle.roles.specs.Roles.{changed}
+use Rattle.table.proofs.Encode.{encode-state, write-active, write-owner}
 use Rattle.roles.specs.Guard.{allowedSound}
 use Rattle.roles.proofs.Serving.{serve-yes, serve-no}
-use Rattle.roles.proofs.Closing.{closed-all}
+use Rattle.roles.proofs.Masks.{ended-is}
 use Rattle.roles.proofs.end.Statement.{statement}
 use Rattle.roles.proofs.end.Tie as tie
 
@@ -20,20 +19,28 @@ unfolding allowedSound
 returns c = serve-no (ap not (eq-eqb _ 0 (c .if1 .taken))) refl
 
 returns-2 : tie.Need-returns-2
-unfolding allowedSound changed
+unfolding allowedSound
 returns-2 c =
-    let done = c .before .before in
-    let told = done .before .before in
+    let masks = c .before .before in
+    let held = masks .before .before .before .before in
+    let told = held .before .before in
     let start = told .before .before .before in
     let a = start .args in
     let p = start .pre in
     serve-yes (not-intro (ne-eqb _ 0 (told .if1 .left)))
-    (done .close-all .ensures
-    ∙ closed-all _ (a .s)
-    (write-active _ (write-owner (state (a .t .now)) (encode-state (a .t .now) (p .whole)) (a .s) 0 (p .ranged)) (a .s) 0 (p .ranged)))
+    (ended-is _ (a .s) (p .ranged)
+    (write-active _ (write-owner (state (a .t .now)) (encode-state (a .t .now) (p .whole)) (a .s) 0 (p .ranged)) (a .s) 0 (p .ranged))
+    (held .clear-eight .ensures) (masks .clear-eight2 .ensures))
+
+clear-eight-requires-2 : tie.Need-clear-eight-requires-2
+clear-eight-requires-2 c κs =
+    let held = c .before .before .before in
+    let p = held .before .before .before .before .before .pre in
+    let h = p .ranged in
+    (held .clear-eight .kept .0 ∙ simp length-set (p .whole), omega arith)
 
 same-length : tie.Need-same-length
-same-length c = c .before .before .close-all .kept .0 ∙ simp length-set
+same-length c = c .before .before .clear-eight2 .kept .0 ∙ c .before .before .before .before .before .before .clear-eight .kept .0 ∙ simp length-set
 
 pub end-spec : {M : Type 1} → statement M
 end-spec =
@@ -49,6 +56,11 @@ end-spec =
     (λ c. search needs)
     (λ c. search needs)
     (λ c. simp length-set (omega arith))
+    (λ c. search needs)
+    (λ c. search needs)
     (λ c κs. search needs)
+    (λ c. search needs)
+    (λ c. search needs)
+    clear-eight-requires-2
     same-length
     returns-2)

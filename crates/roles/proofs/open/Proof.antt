@@ -6,42 +6,36 @@ use lib.ListN.{set}
 use Rattle.bits.proofs.Truth.{confirmed, refuted}
 use Rattle.table.specs.Reading.{holdsAt, state}
 use Rattle.table.proofs.Encode.{encode-state, write-holds}
-use Rattle.table.proofs.Answers.{openable-is}
-use Rattle.roles.specs.Roles.{changed}
-use Rattle.roles.specs.Guard.{allowedSound}
+use Rattle.roles.specs.Roles.{moved}
+use Rattle.roles.specs.Guard.{allowedSound, changedSound}
 use Rattle.roles.proofs.Serving.{serve-yes, serve-no}
 use Rattle.roles.proofs.open.Statement.{statement}
 use Rattle.roles.proofs.open.Tie as tie
 
 returns : tie.Need-returns
 unfolding allowedSound
-returns c =
-    let start = c .before .before .before .before in
-    let a = start .args in
-    let p = start .pre in
-    serve-no
-    (openable-is (a .t .now) (a .s) (a .x) (a .o) (p .whole) (p .ranged .0) (p .ranged .2) (p .ranged .1)
-    ∙ refuted (c .before .is-effective .ensures) (c .if1 .taken))
-    refl
+returns c = serve-no (refuted (c .before .has .ensures) (c .if1 .taken)) refl
 
 returns-2 : tie.Need-returns-2
-unfolding allowedSound changed
+unfolding allowedSound changedSound moved
 returns-2 c =
     let told = c .before .before in
     let start = told .before .before .before .before in
     let a = start .args in
     let p = start .pre in
-    serve-yes
-    (openable-is (a .t .now) (a .s) (a .x) (a .o) (p .whole) (p .ranged .0) (p .ranged .2) (p .ranged .1)
-    ∙ confirmed (told .before .is-effective .ensures) (told .if1 .left))
+    serve-yes (confirmed (told .before .has .ensures) (told .if1 .left))
     (ap (λ (w : ℕ). set (a .t .now) (holdsAt (a .s) (a .x)) w) (c .with .ensures) ∙ write-holds (state (a .t .now)) (encode-state (a .t .now) (p .whole)) (a .s) (a .x) _ (p .ranged .0) (p .ranged .2))
 
 pub open-spec : {M : Type 1} → statement M
 open-spec =
     tie.close
     (tie.spec
-    (λ c κs. search needs)
     (λ c. search needs)
+    (λ c. search needs)
+    (λ c. search needs)
+    (λ c. search needs)
+    (λ c. search needs)
+    (λ c κs. search needs)
     returns
     (λ c. search needs)
     (λ c. search needs)

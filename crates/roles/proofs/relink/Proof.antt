@@ -5,8 +5,8 @@ use mathlib.Core.Path.{_≡_, ap}
 use native.Mathlib.Omega.{arith}
 use Rattle.links.proofs.Links.{link-told, link-leaves, unlink-told, unlink-leaves}
 use Rattle.roles.specs.Request.{ask}
-use Rattle.roles.specs.Roles.{links, unlinks, decode, changed}
-use Rattle.roles.specs.Guard.{allowedSound}
+use Rattle.roles.specs.Roles.{links, unlinks, decode, moved}
+use Rattle.roles.specs.Guard.{allowedSound, changedSound}
 use Rattle.roles.proofs.Codes.{fit-as, served-as}
 use Rattle.roles.proofs.relink.Statement.{statement}
 use Rattle.roles.proofs.relink.Tie as tie
@@ -20,7 +20,7 @@ unfolding decode
 taken-away code r q l h n = let e : code ≡ 14 = omega (arith, n) in ap (λ (k : ℕ). decode (ask k r q 0)) e
 
 returns : tie.Need-returns
-unfolding allowedSound changed
+unfolding allowedSound changedSound moved
 returns c =
     let start = c .before .before .before .before .before .before in
     let a = start .args in
@@ -33,7 +33,7 @@ returns c =
     })
 
 returns-2 : tie.Need-returns-2
-unfolding allowedSound changed
+unfolding allowedSound changedSound moved
 returns-2 c =
     let start = c .before .before .before .before .before .before in
     let a = start .args in

@@ -8,8 +8,8 @@ use Rattle.bits.proofs.Truth.{confirmed, refuted}
 use Rattle.table.specs.Reading.{state}
 use Rattle.table.proofs.Encode.{encode-state, write-sets}
 use Rattle.sound.proofs.Sets.{pair-holds-are}
-use Rattle.roles.specs.Roles.{changed}
-use Rattle.roles.specs.Guard.{allowedSound}
+use Rattle.roles.specs.Roles.{moved}
+use Rattle.roles.specs.Guard.{allowedSound, changedSound}
 use Rattle.roles.proofs.Serving.{serve-yes, serve-no}
 use Rattle.roles.proofs.separate.Statement.{statement}
 use Rattle.roles.proofs.separate.Tie as tie
@@ -21,7 +21,7 @@ returns c =
     serve-no (pair-holds-are _ (p .whole) _ _ _ (p .ranged .0) ∙ refuted (c .before .pair-holds .ensures) (c .if1 .taken)) refl
 
 returns-2 : tie.Need-returns-2
-unfolding allowedSound changed
+unfolding allowedSound changedSound moved
 returns-2 c =
     let start = c .before .before .before .before in
     let a = start .args in

@@ -4,7 +4,7 @@ use mathlib.Core.Path.{refl, _∙_}
 use native.Mathlib.Omega.{arith}
 use Rattle.table.proofs.Table.{is-table, not-table}
 use Rattle.roles.specs.Roles.{limits}
-use Rattle.roles.specs.Guard.{allowedSound}
+use Rattle.roles.specs.Guard.{allowedSound, changedSound}
 use Rattle.roles.proofs.Codes.{NoneTo, no-code}
 use Rattle.roles.proofs.Guarding.{sound-step-short, sound-step-table, checked-code, comes-to, refused, both}
 use Rattle.roles.proofs.serve.Statement.{statement}
@@ -72,4 +72,4 @@ serve-spec =
     (λ c. rw (c .before .before .before .before .before .match .keys13) (c .before .before .serve-link .ensures))
     (λ c. search needs)
     (λ c. rw (c .before .before .before .before .before .match .keys14) (c .before .before .serve-link2 .ensures))
-    (λ c. both (comes-to (sound-step-table _ _ (is-table _ (c .before .if1 .left)) ∙ checked-code allowedSound _ _ (no-code _ (c .match .rest))) refused)))
+    (λ c. both (comes-to (sound-step-table _ _ (is-table _ (c .before .if1 .left)) ∙ checked-code allowedSound changedSound _ _ (no-code _ (c .match .rest))) refused)))

@@ -6,7 +6,7 @@ use Rattle.bits.proofs.Truth.{confirmed, refuted}
 use Rattle.table.proofs.Table.{is-table}
 use Rattle.roles.specs.Request.{ask}
 use Rattle.roles.specs.Roles.{inRange}
-use Rattle.roles.specs.Guard.{allowedSound}
+use Rattle.roles.specs.Guard.{allowedSound, changedSound}
 use Rattle.roles.proofs.Codes.{is-code}
 use Rattle.roles.proofs.Serving.{served-unknown}
 use Rattle.roles.proofs.Guarding.{sound-step-table, checked-argument, comes-to, refused, served-yes, served-no, both, Ready, ready}
@@ -30,7 +30,7 @@ returns : tie.Need-returns
 returns c =
     let p = c .before .before .before .pre in
     both (comes-to
-    (sound-step-table _ _ (is-table _ (p .0)) ∙ checked-argument allowedSound _ _ (is-code _ (p .1) (let h = p .2 in omega arith)) (refuted (told (c .before)) (c .if1 .taken)))
+    (sound-step-table _ _ (is-table _ (p .0)) ∙ checked-argument allowedSound changedSound _ _ (is-code _ (p .1) (let h = p .2 in omega arith)) (refuted (told (c .before)) (c .if1 .taken)))
     refused)
 
 is-known-requires : tie.Need-is-known-requires
@@ -39,7 +39,7 @@ is-known-requires c κs = let g = passed (c .before) in (g .fit .whole, g .pair 
 returns-2 : tie.Need-returns-2
 returns-2 c =
     let g = passed (c .before .before .before) in
-    both (comes-to (g .step ∙ served-unknown allowedSound _ _ (g .pair .is-known ∙ refuted (c .before .is-known .ensures) (c .if2 .taken))) refused)
+    both (comes-to (g .step ∙ served-unknown allowedSound changedSound _ _ (g .pair .is-known ∙ refuted (c .before .is-known .ensures) (c .if2 .taken))) refused)
 
 perform-requires : tie.Need-perform-requires
 perform-requires c κs =

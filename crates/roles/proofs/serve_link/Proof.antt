@@ -6,7 +6,7 @@ use Rattle.bits.proofs.Truth.{confirmed, refuted}
 use Rattle.table.proofs.Table.{is-table}
 use Rattle.roles.specs.Request.{ask}
 use Rattle.roles.specs.Roles.{inRange, decode}
-use Rattle.roles.specs.Guard.{allowedSound}
+use Rattle.roles.specs.Guard.{allowedSound, changedSound}
 use Rattle.roles.proofs.Codes.{is-code, no-pair-past, decode-link, fit-as, served-as}
 use Rattle.roles.proofs.Guarding.{sound-step-table, checked-argument, comes-to, refused, served-yes, served-no, both, ReadyPast, ready-past}
 use Rattle.roles.proofs.Requests.{within-row}
@@ -23,7 +23,7 @@ returns c =
     let p = c .before .before .before .pre in
     let l = p .1 in
     both (comes-to
-    (sound-step-table _ _ (is-table _ (p .0)) ∙ checked-argument allowedSound _ _ (is-code _ (omega arith) (p .2)) (refuted (told (c .before)) (c .if1 .taken)))
+    (sound-step-table _ _ (is-table _ (p .0)) ∙ checked-argument allowedSound changedSound _ _ (is-code _ (omega arith) (p .2)) (refuted (told (c .before)) (c .if1 .taken)))
     refused)
 
 -- what holds past the refusal of an argument

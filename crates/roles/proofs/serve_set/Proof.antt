@@ -8,7 +8,7 @@ use Rattle.table.proofs.Table.{is-table}
 use Rattle.roles.specs.Request.{ask}
 use Rattle.roles.specs.Roles.{separates, inRange, decode}
 use Rattle.roles.specs.Served.{Fit}
-use Rattle.roles.specs.Guard.{allowedSound}
+use Rattle.roles.specs.Guard.{allowedSound, changedSound}
 use Rattle.roles.proofs.Codes.{is-code, pair-carried, decode-set, fit-as, served-as}
 use Rattle.roles.proofs.Guarding.{sound-step-table, checked-argument, checked-pair, comes-to, refused, served-yes, served-no, both, ReadyPast, ready-past}
 use Rattle.roles.proofs.Requests.{within-row}
@@ -37,7 +37,7 @@ returns c =
     let l = p .1 in
     let h = p .2 in
     both (comes-to
-    (sound-step-table _ _ (is-table _ (p .0)) ∙ checked-argument allowedSound _ _ (is-code _ (omega arith) (omega arith)) (refuted (told (c .before)) (c .if1 .taken)))
+    (sound-step-table _ _ (is-table _ (p .0)) ∙ checked-argument allowedSound changedSound _ _ (is-code _ (omega arith) (omega arith)) (refuted (told (c .before)) (c .if1 .taken)))
     refused)
 
 returns-2 : tie.Need-returns-2
@@ -47,7 +47,7 @@ returns-2 c =
     let h = p .2 in
     both (comes-to
     (sound-step-table _ _ (is-table _ (p .0))
-    ∙ checked-pair allowedSound _ _ (is-code _ (omega arith) (omega arith)) (confirmed (told (c .before .before .before)) (c .before .before .if1 .left))
+    ∙ checked-pair allowedSound changedSound _ _ (is-code _ (omega arith) (omega arith)) (confirmed (told (c .before .before .before)) (c .before .before .if1 .left))
     (pair-carried _ l h ∙ sym (c .before .is-bad-pair .ensures) ∙ c .if2 .taken))
     refused)
 

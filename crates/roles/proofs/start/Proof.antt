@@ -11,8 +11,9 @@ use Rattle.table.specs.Reading.{ownerAt, state}
 use Rattle.table.proofs.Answers.{all-authorised}
 use Rattle.table.proofs.Encode.{encode-state, write-owner, write-active}
 use Rattle.sound.proofs.Sets.{dynamic-told}
-use Rattle.roles.specs.Roles.{changed}
-use Rattle.roles.specs.Guard.{allowedSound}
+use Rattle.masks.proofs.Refreshing.{session-shown}
+use Rattle.roles.specs.Roles.{moved}
+use Rattle.roles.specs.Guard.{allowedSound, changedSound}
 use Rattle.roles.proofs.Serving.{serve-yes, serve-no}
 use Rattle.roles.proofs.start.Statement.{statement}
 use Rattle.roles.proofs.start.Tie as tie
@@ -41,9 +42,10 @@ returns-3 c =
     refl
 
 returns-4 : tie.Need-returns-4
-unfolding allowedSound changed
+unfolding allowedSound changedSound moved
 returns-4 c =
-    let asked = c .before .before .before in
+    let told = c .before .before .before .before in
+    let asked = told .before .before .before in
     let found = asked .before .before in
     let idle = found .before .before in
     let start = idle .before .before .before in
@@ -53,11 +55,15 @@ returns-4 c =
     (and-intro (eq-eqb _ 0 (idle .if1 .left))
     (and-intro
     (confirmed (asked .before .subset .ensures ∙ all-authorised (a .t .now) (a .u) (a .roles) _ (p .whole) (p .ranged .1) (found .authorised-roles .ensures)) (asked .if2 .left))
-    (dynamic-told _ (p .whole) (a .roles) refl (c .before .dynamic-fit .ensures) ∙ not-false _ (c .if3 .left))))
-    (write-active _
+    (dynamic-told _ (p .whole) (a .roles) refl (told .before .dynamic-fit .ensures) ∙ not-false _ (told .if3 .left))))
+    (c .before .before .refresh .ensures
+    ∙ session-shown _ (a .s) (write-active _
     (ap (λ (w : ℕ). set (a .t .now) (ownerAt (a .s)) w) (add-one (a .u))
     ∙ write-owner (state (a .t .now)) (encode-state (a .t .now) (p .whole)) (a .s) _ (p .ranged .0))
-    (a .s) _ (p .ranged .0))
+    (a .s) _ (p .ranged .0)) (p .ranged .0))
+
+same-length-3 : tie.Need-same-length-3
+same-length-3 c = c .before .before .refresh .kept .0 ∙ simp length-set
 
 pub start-spec : {M : Type 1} → statement M
 start-spec =
@@ -81,5 +87,6 @@ start-spec =
     (λ c. search needs)
     (λ c. search needs)
     (λ c. simp length-set (omega arith))
-    (λ c. search needs)
+    (λ c κs. search needs)
+    same-length-3
     returns-4)

@@ -6,7 +6,7 @@ use mathlib.Core.List.{[], _∷_}
 use borrow.Author.Tests.{eqb-true}
 use Rattle.bits.proofs.Truth.{and-right}
 use Rattle.sheetguard.specs.Reading.{readable, readRoles}
-use Rattle.sheetguard.proofs.Telling.{known-asked, read-refused, read-given, overlay-whole}
+use Rattle.sheetguard.proofs.Telling.{readable-elim, read-refused, read-given, overlay-whole}
 use Rattle.sheetguard.proofs.sheetguard_authorised_roles.Statement.{statement}
 use Rattle.sheetguard.proofs.sheetguard_authorised_roles.Tie as tie
 
@@ -24,7 +24,7 @@ returns-2 c =
     let yes = found .before .before in
     let said = yes .before in
     let e = said .number .ensures ∙ said .before .readable .ensures ∙ ap (readable _) (said .before .before .is-known .ensures) in
-    let long = eqb-true _ _ (and-right _ _ (known-asked _ _ (sym e ∙ yes .if1 .left))) in
+    let long = eqb-true _ _ (and-right _ _ (readable-elim _ _ (sym e ∙ yes .if1 .left) .2)) in
     read-given _ _ _ _ e (yes .if1 .left) (laid .overlay .ensures ∙ overlay-whole _ _ long ∙ ap (λ (w : ℕ). w ∷ []) (found .authorised-roles .ensures))
 
 pub sheetguard-authorised-roles-spec : {M : Type 1} → statement M

@@ -53,12 +53,29 @@ pub fn expect(text: &str) {
     }
 }
 
+/// Where the masks begin.
+pub const MASKS: usize = 1096;
+
+/// The masks that the other words of a table lead to.
+pub fn masks_of(table: &[u64]) -> Vec<u64> {
+    let members = |set: u64| (0..64).filter(move |member| set >> member & 1 == 1);
+    let mask = |session: usize, mode: usize| {
+        let roles = members(table[680 + session]).fold(0, |all, role| all | table[role]);
+        let effective = members(table[64 + mode]).filter(|object| table[136 + 64 * mode + object] & roles != 0);
+        effective.fold(0, |all, object| all | 1 << object)
+    };
+    (0..256).map(|at| mask(at / 8, at % 8)).collect()
+}
+
 /// Makes a role request and holds the answer and every word to what is expected: yes writes these words, each at its place,
-/// and no others, and all else leaves the table.
+/// the masks that they lead to, and no others, and all else leaves the table.
 pub fn ask(run: &mut Run, guard: &Guard, asked: [u64; 4], answer: u64, writes: &[(usize, u64)]) {
     let mut expected = run.table.clone();
     if answer == 1 {
         writes.iter().for_each(|(at, word)| expected[*at] = *word);
+        let masks = masks_of(&expected);
+        expected[MASKS..].copy_from_slice(&masks);
+        assert!(writes.iter().all(|(at, word)| expected[*at] == *word), "{asked:?} leads to other masks");
     }
     let reply = run.step(guard, &Step::Role(asked)).map(|reply| reply.answers);
     assert_eq!(reply, Some(vec![answer]), "{asked:?} by the {}", guard.name);
