@@ -42,6 +42,6 @@ SoundMeans = (S : State) → sound S ≡ true ↔ Sound S
 abbrev pub MaskMeans : Type 0
 MaskMeans = (S : State) (s x o : ℕ) → sound S ≡ true → s < 32 → x < 8 → o < 64 → has (S .masks s x) o ≡ true ↔ Effective S s x o
 
--- Which masks does a state need that is sound but for them? Those worked out from it (02, S-6).
+-- Is a state that is sound but for its masks sound with those worked out from it? Yes (02, S-6); with no others, by `SoundMeans`.
 abbrev pub RefreshedSound : Type 0
 RefreshedSound = (S : State) → ruled S ≡ true → sound (refreshed S) ≡ true
