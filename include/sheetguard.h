@@ -142,9 +142,11 @@ uint64_t sheetguard_role_request(uint64_t *table, size_t words,
 
 /*
  * Tables: only read.
- * Whether two tables have the same openings and the same effective permissions of each session; separation sets and direct
- * juniors are not looked at. Answers YES or NO, or refusal 12 or 13 for the first table, then for the second. The two may be
- * the same table.
+ * Whether two tables are alike: the same openings, the same effective permissions of each session, and the same authorised
+ * roles of each of the 64 users, with a session or without. Nothing else counts: not by which assignments, links or grants,
+ * not whose session it is, not which roles it has active, no separation set. Alike tables answer every list of openings and
+ * closings alike and are alike after it; other requests they may answer differently. Answers YES or NO, or refusal 12 or 13
+ * for the first table, then for the second. The two may be the same table.
  */
 uint64_t sheetguard_alike(const uint64_t *first, size_t n_first,
                           const uint64_t *second, size_t n_second);

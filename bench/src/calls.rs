@@ -88,6 +88,12 @@ fn sound(name: &'static str, table: &[u64]) -> Call {
     Call::new(name, table, role_ask([0, 0, 0, 0]))
 }
 
+/// Likeness of a table and its copy, for which everything that counts is looked at.
+fn likeness(name: &'static str, table: Vec<u64>) -> Call {
+    let copy = table.clone();
+    answered(name, &table, Box::new(move |guard, table| (guard.alike)(table, &copy)), 1)
+}
+
 /// Every row of the table.
 pub fn rows() -> Vec<Call> {
     let permissions: Ask = Box::new(|guard, table| {
@@ -100,8 +106,6 @@ pub fn rows() -> Vec<Call> {
     let label_set_up: Ask = Box::new(move |guard, table| (guard.label_setup)(table, &clearances, &labels));
     let comparison: Ask =
         Box::new(|guard, _| (0..32 * 32).map(|pair| (guard.compare_labels)(pair / 32, pair % 32)).sum());
-    let same = tables::plant();
-    let likeness: Ask = Box::new(move |guard, table| (guard.alike)(table, &same));
     // session 16 is idle on both tables; user 1 of the plant has role 1, above the others; user 0 is cleared to 0
     let start = role_ask([3, 16, 1, 1 << 1 | 1 << 3 | 1 << 7 | 1 << 15]);
     let label_start = |level| label_ask([3, 16, 0, level]);
@@ -132,7 +136,9 @@ pub fn rows() -> Vec<Call> {
         answered("label set-up", &tables::image(), label_set_up, 1),
         // 32 pairs equal, 238 above, as many below and 516 apart: 238 * 1 + 238 * 2 + 516 * 3
         answered("label comparison, 1,024 pairs", &tables::empty(), comparison, 2262),
-        Call::new("likeness", &tables::plant(), likeness),
+        likeness("likeness", tables::plant()),
+        likeness("likeness: label image, 16 sessions", tables::labels()),
+        likeness("likeness: full role table", tables::full()),
     ]
     .into_iter()
     .chain(rows_with_sets())

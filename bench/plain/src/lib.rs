@@ -62,8 +62,11 @@ pub fn role_request(words: &mut [u64], code: u64, a: u64, b: u64, c: u64) -> u64
 
 /// Whether two tables are alike.
 pub fn alike(first: &[u64], second: &[u64]) -> u64 {
-    let same =
-        |one: &Table, other: &Table| one[HOLDS..STATIC] == other[HOLDS..STATIC] && one[MASKS..] == other[MASKS..];
+    let same = |one: &Table, other: &Table| {
+        one[HOLDS..STATIC] == other[HOLDS..STATIC]
+            && one[MASKS..] == other[MASKS..]
+            && (0..64).all(|user| table::authorised(one, user) == table::authorised(other, user))
+    };
     number(sound(first).and_then(|one| Ok(yes_or_no(same(one, sound(second)?)))))
 }
 

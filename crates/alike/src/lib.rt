@@ -8,11 +8,12 @@ ghost use mathlib.Core.Path.{_≡_};
 ghost use mathlib.Core.Bool.{true};
 ghost use Prim.Native.Nat.{_<_};
 ghost use lib.ListN.{length};
+ghost use Rattle.bits.specs.Words.{all};
 ghost use Rattle.table.specs.Reading.{state};
 ghost use Rattle.table.specs.Table.{tableLength};
 ghost use Rattle.sound.specs.Answers.{isSound};
 ghost use Rattle.roles.specs.Answer.{numberOf};
-ghost use Rattle.alike.specs.Likeness.{sameSession, likeness};
+ghost use Rattle.alike.specs.Likeness.{sameSession, sameUser, likeness};
 
 // Whether session s holds the same in both tables, which are known to be sound, and the same is effective for it: what it may
 // open stands in its masks.
@@ -25,6 +26,32 @@ fn same_session(first: &[u64], second: &[u64], s: usize) -> bool
             return false;
         }
         if first[MASKS + 8 * s + x] != second[MASKS + 8 * s + x] {
+            return false;
+        }
+    }
+    true
+}
+
+// The same of every session.
+fn same_sessions(first: &[u64], second: &[u64]) -> bool
+    requires { ⌜ (length (now first) ≡ tableLength) × (length (now second) ≡ tableLength) × (isSound (now first) ≡ true) × (isSound (now second) ≡ true) ⌝ }
+    ensures { λ b. ⌜ b ≡ all 32 (λ s. sameSession (state (now (first .entry))) (state (now (second .entry))) s) ⌝ }
+{
+    for s in 0..32 {
+        if !same_session(first, second, s) {
+            return false;
+        }
+    }
+    true
+}
+
+// Whether every user is authorised for the same roles in both tables.
+fn same_users(first: &[u64], second: &[u64]) -> bool
+    requires { ⌜ (length (now first) ≡ tableLength) × (length (now second) ≡ tableLength) ⌝ }
+    ensures { λ b. ⌜ b ≡ all 64 (λ u. sameUser (state (now (first .entry))) (state (now (second .entry))) u) ⌝ }
+{
+    for u in 0..64 {
+        if table::authorised_roles(first, u) != table::authorised_roles(second, u) {
             return false;
         }
     }
@@ -47,10 +74,11 @@ pub fn alike(first: &[u64], second: &[u64]) -> Answer
     if !sound::is_sound(second) {
         return Answer::Refused(Refusal::Unsound);
     }
-    for s in 0..32 {
-        if !same_session(first, second, s) {
-            return Answer::No;
-        }
+    if !same_sessions(first, second) {
+        return Answer::No;
+    }
+    if !same_users(first, second) {
+        return Answer::No;
     }
     Answer::Yes
 }

@@ -1,7 +1,8 @@
 // Runs the bench cases of the scope and the vectors of the sources through the compiled guard, and writes a row for each: its
 // number, its answer, and what it spent. Rows from 101: A to H and J; from 201: vector A of source 000; from 301: the scope's
 // label listing, and label 32; from 401: labels that are easily confused; from 501: how labels stand; from 601: wrong lengths and
-// values; from 701: starts with roles chosen; from 801: separation sets; from 901: links; from 951: masks.
+// values; from 701: starts with roles chosen; from 801: separation sets; from 901: links; from 951: masks; from 981: likeness, in
+// either order of the tables.
 ghost use mathlib.Core.Path.{_≡_};
 ghost use Prim.Native.Nat.{_≤_};
 ghost use lib.ListN.{length};
@@ -762,6 +763,87 @@ const MASKS: [u64; 116] = [
     0,
 ];
 
+// Role requests on a copy of a table, each of which leaves it like the table or not: assignments of juniors, of other users, fewer;
+// links; sets; sessions without roles; a grant; and a session that may open.
+const LIKENESS: [u64; 76] = [
+    7,
+    2,
+    3,
+    0,
+    7,
+    2,
+    1,
+    0,
+    7,
+    63,
+    1,
+    0,
+    8,
+    63,
+    1,
+    0,
+    7,
+    0,
+    0,
+    0,
+    8,
+    0,
+    0,
+    0,
+    8,
+    2,
+    5,
+    0,
+    7,
+    2,
+    5,
+    0,
+    13,
+    5,
+    4,
+    0,
+    14,
+    5,
+    4,
+    0,
+    13,
+    7,
+    5,
+    0,
+    13,
+    5,
+    1,
+    0,
+    11,
+    0,
+    138,
+    3,
+    12,
+    15,
+    130,
+    2,
+    3,
+    0,
+    7,
+    0,
+    9,
+    1,
+    0,
+    9,
+    3,
+    1,
+    2,
+    32,
+    4,
+    1,
+    0,
+    0,
+    3,
+    31,
+    2,
+    2,
+];
+
 // Writes a row; whether it was written.
 fn show(number: u64, answer: u64, spent: u64) -> bool {
     let mut out = [0u8; 63];
@@ -837,21 +919,59 @@ fn play_pairs(words: &[u64], first: u64) -> bool
     true
 }
 
-// Role requests after a set-up with role 5 above 3, 3 above 1, and only (0, 9) a permission.
-fn bench_table(words: &[u64], first: u64) -> bool
-    requires { ⌜ (first ≤ 1000) × (1 ≤ first) × (length (now words) ≤ 1000) ⌝ }
+// Role requests in sequence on the second table, and after each one likeness in either order.
+fn play_likeness(kept: &[u64], table: &mut [u64], words: &[u64], first: u64) -> bool
+    requires { ⌜ (first ≤ 1000) × (length (now words) ≤ 1000) ⌝ }
 {
-    let mut table = [0u64; WORDS];
+    for i in 0..words.len() / 4 {
+        let at = 4 * i;
+        roles::request(
+            table,
+            words[at],
+            words[at + 1],
+            words[at + 2],
+            words[at + 3],
+        );
+        let one = roles::number(alike::alike(kept, table));
+        let other = roles::number(alike::alike(table, kept));
+        if !show(first + i as u64, one, other) {
+            return false;
+        }
+    }
+    true
+}
+
+// Role 5 above 3, 3 above 1, and only (0, 9) a permission.
+fn set_up_bench(table: &mut [u64]) -> u64 {
     let mut direct = [0u64; 64];
     let mut permissions = [0u64; 8];
     direct[5] = 8;
     direct[3] = 2;
     permissions[0] = 512;
-    let answer = setup::role_setup(&mut table, &direct, &permissions);
-    if !show(first - 1, roles::number(answer), 0) {
+    roles::number(setup::role_setup(table, &direct, &permissions))
+}
+
+// Role requests after that set-up.
+fn bench_table(words: &[u64], first: u64) -> bool
+    requires { ⌜ (first ≤ 1000) × (1 ≤ first) × (length (now words) ≤ 1000) ⌝ }
+{
+    let mut table = [0u64; WORDS];
+    let answer = set_up_bench(&mut table);
+    if !show(first - 1, answer, 0) {
         return false;
     }
     play_roles(&mut table, words, first)
+}
+
+// Role requests after that set-up and the assignment of role 5 to user 2, each with the likeness of what was and what is.
+fn likeness_cases() -> bool {
+    let mut kept = [0u64; WORDS];
+    let mut table = [0u64; WORDS];
+    set_up_bench(&mut kept);
+    set_up_bench(&mut table);
+    roles::request(&mut kept, 7, 2, 5, 0);
+    roles::request(&mut table, 7, 2, 5, 0);
+    play_likeness(&kept, &mut table, &LIKENESS, 981)
 }
 
 // Role 1 above 2, 3 above 4; (0, 1), (0, 2), (1, 1) and (1, 2) permissions.
@@ -959,5 +1079,8 @@ fn main() {
     if !bench_table(&LINKS, 901) {
         return;
     }
-    bench_table(&MASKS, 951);
+    if !bench_table(&MASKS, 951) {
+        return;
+    }
+    likeness_cases();
 }

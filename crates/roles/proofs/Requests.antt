@@ -10,9 +10,9 @@ use lib.ListN.{getD}
 use borrow.Author.Tests.{le-leb}
 use Rattle.bits.specs.Words.{_and_, upd, has, _with_}
 use Rattle.bits.specs.Sets.{each, _without_}
-use Rattle.bits.proofs.Truth.{and-intro, and-true}
+use Rattle.bits.proofs.Truth.{and-intro, true-and, and-true}
 use Rattle.table.specs.State.{State}
-use Rattle.table.specs.Authority.{idle, authorised, effective}
+use Rattle.table.specs.Authority.{idle, authorised, mayActivate, effective}
 use Rattle.table.specs.Changes.{withAssigned, withOwner, withActive, withHolds}
 use Rattle.table.specs.Separation.{setsEmpty}
 use Rattle.table.specs.Masks.{refreshedAt}
@@ -25,9 +25,9 @@ use Rattle.sound.specs.Answers.{isSound, sessionsFit}
 use Rattle.sound.proofs.Answers.{shown-sound}
 use Rattle.sound.proofs.Parts.{empty-fits, deassign-ruled, deassigned}
 use Rattle.roles.specs.Request.{Ask, ask, decide, within}
-use Rattle.roles.specs.Roles.{limits, inRange, decode, known, moved}
+use Rattle.roles.specs.Roles.{activates, limits, inRange, decode, known, moved}
 use Rattle.roles.specs.Guard.{roleStep, allowedSound, changedSound}
-use Rattle.roles.proofs.Codes.{is-code, no-pair}
+use Rattle.roles.proofs.Codes.{is-code, no-pair, ranged}
 use Rattle.roles.proofs.Masks.{changed-same}
 use Rattle.roles.proofs.Same.{allowed-same}
 use Rattle.roles.proofs.Steps.{reach, step-encode, step-sound}
@@ -42,6 +42,15 @@ pub within-intro : (largest : List ℕ) (code a b c : ℕ) → a ≤ getD larges
     → within largest (ask code a b c) ≡ true
 unfolding within
 within-intro largest code a b c h k l = and-intro (le-leb _ _ h) (and-intro (le-leb _ _ k) (le-leb _ _ l))
+
+-- what an opening or a closing in range names
+pub opening-range : (s o x : ℕ) → inRange (ask 1 s o x) ≡ true → (s < 32) × (o < 64) × (x < 8)
+unfolding decode
+opening-range s o x r = ranged 1 s o x (omega arith) (omega arith) r (no-pair (ask 1 s o x) (omega arith))
+
+pub closing-range : (s o x : ℕ) → inRange (ask 2 s o x) ≡ true → (s < 32) × (o < 64) × (x < 8)
+unfolding decode
+closing-range s o x r = ranged 2 s o x (omega arith) (omega arith) r (no-pair (ask 2 s o x) (omega arith))
 
 -- the table of a sound state is sound, and a state whose table is sound is
 pub encode-sound : (S : State) → sound S ≡ true → isSound (encode S) ≡ true
@@ -115,6 +124,15 @@ module _ (S : State) (f : sound S ≡ true) where
         (within-intro _ 3 s u roles (le-of-suc-le-suc hs) (le-of-suc-le-suc hu) (le-of-suc-le-suc hr)) refl
         ∙ ap (λ (b : Bool). decide (idle S s and b) 1 1 (encode (refreshedAt s (withActive (withOwner S s (suc u)) s roles))) (encode S))
         (and-true _ (empty-fits S 16 _ (omega arith) none))
+
+    pub activate-is : (s r : ℕ) → s < 32 → r < 64
+        → roleStep (encode S) (ask 5 s r 0) ≡ decide (mayActivate S s r) 1 1 (encode (changedSound S (activates s r))) (encode S)
+    unfolding inRange limits decode known allowedSound
+    activate-is s r hs hr =
+        decided-by (ask 5 s r 0) (omega arith) (omega arith)
+        (within-intro _ 5 s r 0 (le-of-suc-le-suc hs) (le-of-suc-le-suc hr) (omega arith)) refl
+        ∙ ap (λ (b : Bool). decide b 1 1 (encode (changedSound S (activates s r))) (encode S))
+        (true-and _ (le-leb _ _ (sound-ruled S f .owners-known s hs)) ∙ and-true _ (empty-fits S 16 _ (omega arith) none))
 
     pub assign-is : (u r : ℕ) → u < 64 → r < 64
         → roleStep (encode S) (ask 7 u r 0) ≡ decide true 1 1 (encode (withAssigned S u (S .assigned u with r))) (encode S)

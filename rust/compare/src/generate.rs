@@ -498,14 +498,30 @@ pub fn damaged(random: &mut Random) -> Case {
     })
 }
 
-/// Pairs of tables that differ in a few requests or words.
+/// An assignment or a deassignment, of the first user or the last one often.
+fn assignment(random: &mut Random, world: &World) -> Step {
+    let user = random.one(&[0, 63, world.users[0]]);
+    Step::Role([random.one(&[7, 7, 8]), user, random.one(&world.roles), 0])
+}
+
+/// A session ended and begun for another user.
+fn handed_on(random: &mut Random, world: &World) -> Vec<Step> {
+    let session = random.one(&world.sessions);
+    vec![Step::Role([4, session, 0, 0]), Step::Role([3, session, random.one(&world.users), 0])]
+}
+
+/// Pairs of tables that differ in a few requests or words, in one role of one user, or in the user of a session.
 pub fn likeness(random: &mut Random) -> Case {
     in_rounds(random, |random, world, layer| {
-        let changes = list(random, 4, |random| match random.below(8) {
-            0 => damage(random),
-            1 => wrong_length(random),
-            _ => layer.any_request(random, world),
-        });
+        let changes = match random.below(4) {
+            0 => vec![assignment(random, world)],
+            1 => handed_on(random, world),
+            _ => list(random, 4, |random| match random.below(8) {
+                0 => damage(random),
+                1 => wrong_length(random),
+                _ => layer.any_request(random, world),
+            }),
+        };
         [changes, vec![Step::Alike, Step::Restore, Step::Alike]].concat()
     })
 }

@@ -127,6 +127,29 @@ const MASKS: &str = "
     assign 4 7; start 3 4 128; open 3 9 0; !role 13 7 3 0; open 3 9 0; !role 14 7 3 0; close 3 9 0; !role 14 7 3 0; open 3 9 0
     open 1 9 0";
 
+/// Requests on a table, after each of which it is set beside what it was when user 2 was assigned role 5.
+const LIKENESS: &str = "
+    roles; above 5 3; above 3 1; permit 0 9; run; assign 2 5; !keep
+    assign 2 3; !alike; assign 2 1; !alike; assign 63 1; !alike; deassign 63 1; !alike; assign 0 0; !alike; deassign 0 0; !alike
+    deassign 2 5; !alike; assign 2 5; !alike
+    !role 13 5 4 0; !alike; !role 14 5 4 0; !alike; !role 13 7 5 0; !alike; !role 13 5 1 0; !alike
+    !role 11 0 138 3; !alike; !role 12 15 130 2; !alike
+    start 0 7 0; !alike; grant 1 0 9; !alike; start 1 2 32; !alike; end 1; !alike; start 31 2 2; !alike";
+
+/// What likeness answers in a case, in either order of the tables.
+fn likeness_rows(case: &Case, guard: &Guard) -> Vec<[u64; 2]> {
+    let mut run = Run::default();
+    let mut rows = Vec::new();
+    for step in &case.0 {
+        match (step, run.step(guard, step)) {
+            (Step::Alike, Some(reply)) => rows.push([reply.answers[0], reply.answers[1]]),
+            (Step::Keep, _) => {}
+            (_, reply) => assert_eq!(reply.map(|reply| reply.answers[0]), Some(1), "{step:?} by the {}", guard.name),
+        }
+    }
+    rows
+}
+
 /// Rows as the program writes them.
 fn numbered(first: u64, rows: Vec<[u64; 2]>) -> impl Iterator<Item = String> {
     (first..).zip(rows).map(|(number, [answer, spent])| format!("{number}\t{answer}\t{spent}"))
@@ -137,6 +160,7 @@ fn rows_of_the_program_cases() {
     let source = [SOURCE, DERIVED].join("\n");
     let played = [(100, case(BENCH)), (200, case(&source)), (300, case(LISTING)), (400, case(CONFUSED))];
     let chosen = [(700, case(CHOSEN)), (800, case(SETS)), (900, case(LINKS)), (950, case(MASKS))];
+    let likeness = case(LIKENESS);
     for guard in guards() {
         let mut rows: Vec<String> = Vec::new();
         for (first, case) in &played {
@@ -148,12 +172,13 @@ fn rows_of_the_program_cases() {
         for (first, case) in &chosen {
             rows.extend(numbered(*first, play(case, guard)));
         }
+        rows.extend(numbered(981, likeness_rows(&likeness, guard)));
         for (row, expected) in rows.iter().zip(EXPECTED.lines()) {
             assert_eq!(row, expected, "{}", guard.name);
         }
         assert_eq!(rows.len(), EXPECTED.lines().count(), "{}", guard.name);
     }
-    for (_, case) in played.iter().chain(&chosen) {
+    for (_, case) in played.iter().chain(&chosen).chain(&[(981, likeness)]) {
         assert_eq!(compare(case, GUARDS, &mut Reached::default()), Ok(()));
     }
 }
@@ -491,18 +516,5 @@ fn sets_on_label_tables() {
             replace(&mut run, guard, [code, set, 0, 0], 1);
             close(&mut run, [1, 1]);
         }
-    }
-}
-
-/// Tables that differ in their sets alone are alike.
-#[test]
-fn sets_and_likeness() {
-    for guard in guards() {
-        let mut run = after(guard, SEPARATE);
-        run.step(guard, &Step::Keep);
-        replace(&mut run, guard, [11, 3, 1 << 7 | 42, 4], 1);
-        replace(&mut run, guard, [12, 3, 1 << 7 | 42, 4], 1);
-        let alike = run.step(guard, &Step::Alike).map(|reply| reply.answers);
-        assert_eq!(alike, Some(vec![1, 1]), "{}", guard.name);
     }
 }

@@ -206,20 +206,6 @@ fn links_of_label_tables() {
     }
 }
 
-/// Tables that differ in their links alone are alike, and so are those whose juniors nobody has active.
-#[test]
-fn links_and_likeness() {
-    for guard in guards() {
-        let mut run = after(guard, &format!("{ABOVE}; assign 2 5; start 0 2 32"));
-        run.step(guard, &Step::Keep);
-        for asked in [[13, 5, 1, 0], [13, 7, 5, 0], [14, 3, 1, 0]] {
-            assert_eq!(run.step(guard, &Step::Role(asked)).map(|reply| reply.answers), Some(vec![1]), "{}", guard.name);
-            let alike = run.step(guard, &Step::Alike).map(|reply| reply.answers);
-            assert_eq!(alike, Some(vec![1, 1]), "{asked:?} by the {}", guard.name);
-        }
-    }
-}
-
 /// Whether a word has a member.
 fn has(word: u64, member: u64) -> bool {
     word >> member & 1 == 1

@@ -54,7 +54,8 @@ pub fn role_request(table: &mut [u64], code: u64, a: u64, b: u64, c: u64) -> u64
     }))
 }
 
-/// Whether two tables have the same openings and the same effective permissions of each session.
+/// Whether two tables have the same openings, the same effective permissions of each session and the same authorised roles of
+/// each user.
 pub fn alike(first: &[u64], second: &[u64]) -> u64 {
     number(table::read_sound(first).and_then(|one| {
         let other = table::read_sound(second)?;

@@ -180,10 +180,24 @@ impl State {
         self.static_sets.values().all(among_users) && self.dynamic_sets.values().all(among_sessions)
     }
 
-    /// The openings are the same, and each session has the same effective permissions.
+    /// The openings are the same, each session has the same effective permissions, and each user the same authorised roles.
     pub fn is_like(&self, other: &State) -> bool {
-        let same_permissions = |s| self.effective(s) == other.effective(s);
-        self.openings == other.openings && (0..SESSIONS).all(same_permissions)
+        self.openings == other.openings
+            && (0..SESSIONS).all(|s| self.effective(s) == other.effective(s))
+            && self.counted_users().all(|u| self.counted_roles(u) == other.counted_roles(u))
+            && turn!("wrong-likeness-by-owner", true, self.users == other.users)
+    }
+
+    /// The users of whom likeness asks: all of them.
+    fn counted_users(&self) -> impl Iterator<Item = User> + '_ {
+        let users = turn!("wrong-likeness-last-user", 0..USERS, 0..USERS - 1);
+        let users = turn!("wrong-likeness-of-sessions", users, users.filter(|u| self.users.values().any(|v| v == u)));
+        turn!("wrong-likeness-without-users", users, users.take(0))
+    }
+
+    /// What likeness asks of a user: the authorised roles.
+    fn counted_roles(&self, u: User) -> BTreeSet<Role> {
+        turn!("wrong-likeness-by-assigned", self.authorised(u), seconds(&self.assigned, u).collect())
     }
 }
 

@@ -1,5 +1,5 @@
 //! Wrong turns that the scope warns of or that a start with roles, the standing of two labels, separation of duties, a change of
-//! seniority or kept masks invite, each a feature of this crate, so that the comparison can be seen to catch it.
+//! seniority, kept masks or likeness invite, each a feature of this crate, so that the comparison can be seen to catch it.
 
 /// Whether a wrong turn is built in. No test is built then; `rust/wrong-turns` counts what the comparison finds.
 pub const WRONG: bool = cfg!(feature = "wrong-turn");

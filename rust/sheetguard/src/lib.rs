@@ -403,8 +403,12 @@ pub fn label_request(table: &mut [u64], request: LabelRequest) -> Result<Reply, 
     Ok(Reply { answer, spent })
 }
 
-/// Whether two tables have the same openings and the same effective permissions of each session. Separation sets and direct
-/// juniors are not looked at.
+/// Whether two tables are alike: the same openings, the same effective permissions of each session, and the same authorised
+/// roles of each of the 64 users, with a session or without. Nothing else counts: not by which assignments, links or grants,
+/// not whose session it is, not which roles it has active, no separation set.
+///
+/// Alike tables answer every list of openings and closings alike and are alike after it. Other requests they may answer
+/// differently: a session may belong to different users in the two, who may activate different roles.
 ///
 /// # Errors
 /// [`Refusal::WrongLength`] and [`Refusal::Unsound`], for the first table and then for the second.
@@ -413,12 +417,20 @@ pub fn label_request(table: &mut [u64], request: LabelRequest) -> Result<Reply, 
 /// use sheetguard::{alike, role_request, set_up_roles, Answer, Refusal, RoleRequest, WORDS};
 ///
 /// # fn main() -> Result<(), Refusal> {
+/// // role 5 above role 3, and user 2 is assigned 5
+/// let mut juniors = [0; 64];
+/// juniors[5] = 1 << 3;
 /// let mut table = [0; WORDS];
-/// set_up_roles(&mut table, &[0; 64], &[0; 8])?;
-/// let old = table;
-/// assert_eq!(role_request(&mut table, RoleRequest::Assign { user: 0, role: 0 })?, Answer::Yes);
-/// assert!(alike(&old, &table)?);
-/// assert_eq!(alike(&old, &[]), Err(Refusal::WrongLength));
+/// set_up_roles(&mut table, &juniors, &[0; 8])?;
+/// let fresh = table;
+/// assert_eq!(role_request(&mut table, RoleRequest::Assign { user: 2, role: 5 })?, Answer::Yes);
+/// assert!(!alike(&fresh, &table)?);
+///
+/// // assigned 3 as well, which user 2 has through 5 already
+/// let assigned = table;
+/// assert_eq!(role_request(&mut table, RoleRequest::Assign { user: 2, role: 3 })?, Answer::Yes);
+/// assert!(assigned != table && alike(&assigned, &table)?);
+/// assert_eq!(alike(&table, &[]), Err(Refusal::WrongLength));
 /// # Ok(())
 /// # }
 /// ```

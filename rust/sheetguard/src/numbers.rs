@@ -68,7 +68,7 @@ pub fn role_request(table: &mut [u64], code: u64, a: u64, b: u64, c: u64) -> u64
     unsafe { sheetguard_role_request(table.as_mut_ptr(), table.len(), code, a, b, c) }
 }
 
-/// Whether two tables are alike.
+/// Whether two tables are alike: 1 or 0, or 12 or 13 for the first table, then for the second.
 #[must_use]
 pub fn alike(first: &[u64], second: &[u64]) -> u64 {
     // SAFETY: see above
