@@ -1,19 +1,20 @@
 -- Laws of likeness: its plain facts, an equivalence, and the order of its answers. Assumes nothing.
-use Prim.Native.Nat.{ℕ, _<_}
+use Prim.Native.Nat.{ℕ, _+_, _*_, _/_, _%_, _<_}
 use mathlib.Core.Path.{_≡_, refl, sym, ap, ap₂, _∙_}
 use mathlib.Core.Bool.{Bool, true, false}
 use mathlib.Core.List.{List}
+use native.Mathlib.Omega.{arith}
 use lib.Dec.{eqb}
 use lib.ListN.{length}
 use borrow.Author.Tests.{eq-eqb, eqb-true}
 use Rattle.bits.specs.Words.{_and_, if_then_else_, has, all, pack}
-use Rattle.bits.proofs.Truth.{and-intro, and-left, and-right, past, stopped, if-true, if-false}
+use Rattle.bits.proofs.Truth.{same-truth, and-intro, and-left, and-right, past, stopped, if-true, if-false}
 use Rattle.bits.proofs.Below.{all-intro, all-elim, all-cong}
 use Rattle.bits.proofs.Word.{has-pack, pack-cong}
 use Rattle.table.specs.State.{State}
 use Rattle.table.specs.Authority.{authorised, effective}
 use Rattle.table.specs.Sound.{sound}
-use Rattle.table.specs.Reading.{state}
+use Rattle.table.specs.Reading.{word, state}
 use Rattle.table.specs.Table.{tableLength, isTable, encode}
 use Rattle.table.specs.Answers.{authorisedRoles}
 use Rattle.table.specs.Masks.{maskOf}
@@ -116,15 +117,26 @@ module _ (first second : List ℕ) where
 
 -- ---- what the code compares
 
+-- eight words a session, one after the other
+by-sessions : (f : ℕ → Bool) → all 256 f ≡ all 32 (λ s. all 8 (λ x. f (8 * s + x)))
+by-sessions f =
+    same-truth
+    (λ e. all-intro _ 32 (λ s hs. all-intro _ 8 (λ x hx. all-elim _ 256 e (8 * s + x) (omega arith))))
+    (λ e. all-intro _ 256 (λ i h. ap f (omega arith) ∙ all-elim _ 8 (all-elim _ 32 e (i / 8) (omega arith)) (i % 8) (omega arith)))
+
+-- the openings and the masks are the same word for word
+abbrev pub sameWords : List ℕ → List ℕ → ℕ → Bool
+sameWords t t′ i = eqb (word t (712 + i)) (word t′ (712 + i)) and eqb (word t (1096 + i)) (word t′ (1096 + i))
+
 -- in sound tables the masks are what is effective
-pub same-words : (t t′ : List ℕ) (s : ℕ) → isSound t ≡ true → isSound t′ ≡ true → s < 32
-    → all 8 (λ x. eqb (state t .holds s x) (state t′ .holds s x) and eqb (state t .masks s x) (state t′ .masks s x)) ≡ sameSession (state t) (state t′) s
+pub same-words : (t t′ : List ℕ) → isSound t ≡ true → isSound t′ ≡ true → all 256 (sameWords t t′) ≡ all 32 (λ s. sameSession (state t) (state t′) s)
 unfolding sameSession maskOf
-same-words t t′ s e e′ hs =
-    all-cong 8 (λ x hx. ap₂ (λ (w w′ : ℕ). eqb (state t .holds s x) (state t′ .holds s x) and eqb w w′) (true-mask t e x hx) (true-mask t′ e′ x hx))
+same-words t t′ e e′ =
+    by-sessions (sameWords t t′)
+    ∙ all-cong 32 (λ s hs. all-cong 8 (λ x hx. ap₂ _and_ (ap₂ eqb (ap (word t) (omega arith)) (ap (word t′) (omega arith))) (ap₂ eqb (mask t e s x hs hx) (mask t′ e′ s x hs hx))))
   where
-    true-mask : (t : List ℕ) → isSound t ≡ true → (x : ℕ) → x < 8 → state t .masks s x ≡ maskOf (state t) s x
-    true-mask t e x hx = sound-masks (state t) (sound-state t e) s x hs hx
+    mask : (t : List ℕ) → isSound t ≡ true → (s x : ℕ) → s < 32 → x < 8 → word t (1096 + (8 * s + x)) ≡ maskOf (state t) s x
+    mask t e s x hs hx = ap (word t) (omega arith) ∙ sound-masks (state t) (sound-state t e) s x hs hx
 
 -- the authorised roles of a user, as they are read
 pub same-read : (t t′ : List ℕ) (u : ℕ) {roles roles′ : ℕ} → length t ≡ tableLength → length t′ ≡ tableLength → u < 64

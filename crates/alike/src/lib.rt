@@ -6,7 +6,6 @@ use table::layout::MASKS;
 use table::layout::WORDS;
 ghost use mathlib.Core.Path.{_≡_};
 ghost use mathlib.Core.Bool.{true};
-ghost use Prim.Native.Nat.{_<_};
 ghost use lib.ListN.{length};
 ghost use Rattle.bits.specs.Words.{all};
 ghost use Rattle.table.specs.Reading.{state};
@@ -15,30 +14,17 @@ ghost use Rattle.sound.specs.Answers.{isSound};
 ghost use Rattle.roles.specs.Answer.{numberOf};
 ghost use Rattle.alike.specs.Likeness.{sameSession, sameUser, likeness};
 
-// Whether session s holds the same in both tables, which are known to be sound, and the same is effective for it: what it may
+// Whether each session holds the same in both tables, which are known to be sound, and the same is effective for it: what it may
 // open stands in its masks.
-fn same_session(first: &[u64], second: &[u64], s: usize) -> bool
-    requires { ⌜ (length (now first) ≡ tableLength) × (length (now second) ≡ tableLength) × (s < 32) × (isSound (now first) ≡ true) × (isSound (now second) ≡ true) ⌝ }
-    ensures { λ b. ⌜ b ≡ sameSession (state (now (first .entry))) (state (now (second .entry))) s ⌝ }
-{
-    for x in 0..8 {
-        if first[HOLDS + 8 * s + x] != second[HOLDS + 8 * s + x] {
-            return false;
-        }
-        if first[MASKS + 8 * s + x] != second[MASKS + 8 * s + x] {
-            return false;
-        }
-    }
-    true
-}
-
-// The same of every session.
 fn same_sessions(first: &[u64], second: &[u64]) -> bool
     requires { ⌜ (length (now first) ≡ tableLength) × (length (now second) ≡ tableLength) × (isSound (now first) ≡ true) × (isSound (now second) ≡ true) ⌝ }
     ensures { λ b. ⌜ b ≡ all 32 (λ s. sameSession (state (now (first .entry))) (state (now (second .entry))) s) ⌝ }
 {
-    for s in 0..32 {
-        if !same_session(first, second, s) {
+    for i in 0..256 {
+        if first[HOLDS + i] != second[HOLDS + i] {
+            return false;
+        }
+        if first[MASKS + i] != second[MASKS + i] {
             return false;
         }
     }
