@@ -15,16 +15,16 @@ use Rattle.table.specs.Sound.{sound}
 use Rattle.table.specs.Reading.{state}
 use Rattle.table.specs.Table.{encode}
 use Rattle.table.proofs.State.{may-activate-user}
-use Rattle.table.proofs.Upd.{upd-same}
+use Rattle.bits.proofs.Upd.{upd-same}
 use Rattle.table.proofs.Keeps.{authorised-same, effective-same}
 use Rattle.table.proofs.Encode.{encode-state}
 use Rattle.table.proofs.Table.{table-length}
 use Rattle.sound.proofs.Answers.{sound-state, sound-table}
-use Rattle.roles.specs.Request.{ask}
-use Rattle.roles.specs.Guard.{roleStep}
-use Rattle.roles.proofs.Serving.{decide-yes, decide-no}
-use Rattle.roles.proofs.Steps.{answer-of, state-of}
-use Rattle.roles.proofs.Requests.{encode-sound, next-sound, start-is, activate-is}
+use Rattle.requests.specs.Request.{ask}
+use Rattle.rbac.specs.Guard.{roleStep}
+use Rattle.requests.proofs.Outcome.{decide-yes, decide-no}
+use Rattle.rbac.proofs.Steps.{answer-of, state-of}
+use Rattle.rbac.proofs.Requests.{encode-sound, next-sound, start-is, activate-is}
 use Rattle.alike.specs.Likeness.{Alike}
 use Rattle.alike.specs.Claims.{ActivatedApart, ActivationsDiffer}
 use Rattle.alike.proofs.Likeness.{shown-alike}

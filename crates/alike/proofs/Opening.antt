@@ -13,21 +13,21 @@ use Rattle.table.specs.State.{State}
 use Rattle.table.specs.Changes.{withHolds}
 use Rattle.table.specs.Reading.{state}
 use Rattle.table.specs.Table.{encode}
-use Rattle.table.proofs.Upd.{grid-agree}
+use Rattle.bits.proofs.Upd.{grid-agree}
 use Rattle.table.proofs.Keeps.{authorised-same, effective-same}
 use Rattle.table.proofs.Encode.{encode-state}
 use Rattle.table.proofs.Table.{table-length}
 use Rattle.sound.specs.Answers.{isSound}
 use Rattle.sound.proofs.Answers.{sound-state, sound-table}
-use Rattle.roles.specs.Request.{Ask, ask, decide}
-use Rattle.roles.specs.Roles.{isCode, inRange, allowed, changed}
-use Rattle.roles.specs.Guard.{roleStep}
-use Rattle.roles.specs.Claims.{after}
-use Rattle.roles.proofs.Serving.{decide-yes, decide-no}
-use Rattle.roles.proofs.Codes.{is-code}
-use Rattle.roles.proofs.Guarding.{role-step-sound, checked-argument}
-use Rattle.roles.proofs.Steps.{answer-of, state-of, step-sound}
-use Rattle.roles.proofs.Requests.{opening-range, closing-range, open-is, close-is}
+use Rattle.requests.specs.Request.{Ask, ask, decide}
+use Rattle.rbac.specs.Roles.{isCode, inRange, allowed, changed}
+use Rattle.rbac.specs.Guard.{roleStep}
+use Rattle.rbac.specs.Claims.{after}
+use Rattle.requests.proofs.Outcome.{decide-yes, decide-no}
+use Rattle.rbac.proofs.Codes.{is-code}
+use Rattle.rbac.proofs.Guarding.{role-step-sound, checked-argument}
+use Rattle.rbac.proofs.Steps.{answer-of, state-of, step-sound}
+use Rattle.rbac.proofs.Requests.{opening-range, closing-range, open-is, close-is}
 use Rattle.alike.specs.Likeness.{Alike}
 use Rattle.alike.specs.Claims.{AlikeTables, answers, openingsOnly, OpenedAlike}
 use Rattle.alike.proofs.Likeness.{shown-alike}

@@ -6,9 +6,9 @@ use Rattle.table.specs.Authority.{idle, authorised}
 use Rattle.table.specs.Separation.{setsEmpty}
 use Rattle.table.specs.Reading.{state}
 use Rattle.sound.specs.Answers.{isSound}
-use Rattle.roles.specs.Request.{Ask, ask}
-use Rattle.roles.specs.Guard.{roleStep}
-use Rattle.roles.specs.Claims.{after}
+use Rattle.requests.specs.Request.{Ask, ask}
+use Rattle.rbac.specs.Guard.{roleStep}
+use Rattle.rbac.specs.Claims.{after}
 use Rattle.alike.specs.Likeness.{sameState, likeness, Alike}
 
 -- When are two states alike? Exactly when the facts of `Alike` hold.

@@ -1,6 +1,6 @@
 // Likeness of two tables.
-use roles::Answer;
-use roles::Refusal;
+use requests::Answer;
+use requests::Refusal;
 use table::layout::HOLDS;
 use table::layout::MASKS;
 use table::layout::WORDS;
@@ -11,7 +11,7 @@ ghost use Rattle.bits.specs.Words.{all};
 ghost use Rattle.table.specs.Reading.{state};
 ghost use Rattle.table.specs.Table.{tableLength};
 ghost use Rattle.sound.specs.Answers.{isSound};
-ghost use Rattle.roles.specs.Answer.{numberOf};
+ghost use Rattle.requests.specs.Answer.{numberOf};
 ghost use Rattle.alike.specs.Likeness.{sameSession, sameUser, likeness};
 
 // Whether each session holds the same in both tables, which are known to be sound, and the same is effective for it: what it may

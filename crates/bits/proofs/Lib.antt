@@ -6,3 +6,4 @@ pub mod Members
 pub mod Walk
 pub mod Counting
 pub mod Tabulate
+pub mod Upd

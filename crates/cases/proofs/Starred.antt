@@ -16,12 +16,12 @@ use Rattle.table.specs.Table.{encode}
 use Rattle.table.proofs.Table.{is-table}
 use Rattle.bits.proofs.Tabulate.{length-tabulate}
 use Rattle.sound.specs.Answers.{isSound, openingsFit, sessionsFit, pairFits}
-use Rattle.roles.specs.Request.{Outcome, within}
-use Rattle.roles.specs.Roles.{isCode, limits, inRange, carriesBadPair, decode, known, moved, changed}
-use Rattle.roles.specs.Guard.{allowedSound}
-use Rattle.roles.proofs.Playing as playing
-use Rattle.roles.proofs.Playing.{stay, move}
-use Rattle.roles.proofs.Requests.{sound-encode}
+use Rattle.requests.specs.Request.{Outcome, within}
+use Rattle.rbac.specs.Roles.{isCode, limits, inRange, carriesBadPair, decode, known, moved, changed}
+use Rattle.rbac.specs.Guard.{allowedSound}
+use Rattle.rbac.proofs.Playing as playing
+use Rattle.rbac.proofs.Playing.{stay, move}
+use Rattle.rbac.proofs.Requests.{sound-encode}
 use Rattle.closure.specs.Closure.{via, through, closure, acyclic}
 use Rattle.setup.specs.SetUp.{fresh, roleSetUp}
 use Rattle.setup.proofs.Claims.{set-up-sound}
@@ -64,7 +64,7 @@ shows-met (compared a b w ∷ rest) S f h = (h .0, shows-met rest S f (h .1))
 shows-met (holds b ∷ rest) S f h = (h .0, shows-met rest S f (h .1))
 
 shown : Shows (begun rows) starred
-unfolding starred permissions fresh move stay isCode limits inRange carriesBadPair within decode known changed moved playing.asked allowedSound openingsFit sessionsFit pairFits covers authorised mayActivate effective fewer emptyPair upd has all any each some subset overlap bit pack _with_ _without_ if_then_else_ _and_ _or_ _implies_ class brands stands equalOrAbove
+unfolding starred permissions fresh move stay isCode limits inRange carriesBadPair within decode known changed playing.asked openingsFit sessionsFit pairFits covers authorised mayActivate effective fewer emptyPair upd has all any each some subset overlap bit pack _with_ _without_ if_then_else_ _and_ _or_ _implies_ class brands stands equalOrAbove
 shown = (refl, (refl, (refl, (refl, (refl, (refl, (refl, (refl, (refl, (refl, (refl, (refl, (refl, (refl, (refl, (refl, (refl, (refl, (refl, (refl, (refl, (refl, (refl, (refl, tt))))))))))))))))))))))))
 
 -- ---- on the table after the set-up

@@ -1,8 +1,8 @@
 -- The starred bench cases of 01, A to I, as a single table, and the claim that every row of it is met in sequence.
 use Rattle.bits.specs.Words.{ℕ, _≡_, Bool, true, List, [], _∷_, eqb, leb, length, _implies_, if_then_else_, all, tabulate}
 use Rattle.table.specs.Table.{tableLength}
-use Rattle.roles.specs.Request.{Ask, ask}
-use Rattle.roles.specs.Guard.{roleStep}
+use Rattle.requests.specs.Request.{Ask, ask}
+use Rattle.rbac.specs.Guard.{roleStep}
 use Rattle.setup.specs.SetUp.{roleSetUp}
 use Rattle.machine.specs.declared.Standing.{Standing}
 use Rattle.machine.specs.declared.Standing.the-variants.{Equal, Above, Apart}

@@ -867,7 +867,7 @@ fn play_roles(table: &mut [u64], words: &[u64], first: u64) -> bool
 {
     for i in 0..words.len() / 4 {
         let at = 4 * i;
-        let answer = roles::number(roles::request(
+        let answer = requests::number(roles::request(
             table,
             words[at],
             words[at + 1],
@@ -895,7 +895,7 @@ fn play_labels(table: &mut [u64], words: &[u64], first: u64) -> bool
             words[at + 3],
         );
         let answer = r.answer;
-        if !show(first + i as u64, roles::number(answer), r.spent) {
+        if !show(first + i as u64, requests::number(answer), r.spent) {
             return false;
         }
     }
@@ -932,8 +932,8 @@ fn play_likeness(kept: &[u64], table: &mut [u64], words: &[u64], first: u64) -> 
             words[at + 2],
             words[at + 3],
         );
-        let one = roles::number(alike::alike(kept, table));
-        let other = roles::number(alike::alike(table, kept));
+        let one = requests::number(alike::alike(kept, table));
+        let other = requests::number(alike::alike(table, kept));
         if !show(first + i as u64, one, other) {
             return false;
         }
@@ -948,7 +948,7 @@ fn set_up_bench(table: &mut [u64]) -> u64 {
     direct[5] = 8;
     direct[3] = 2;
     permissions[0] = 512;
-    roles::number(setup::role_setup(table, &direct, &permissions))
+    requests::number(setup::role_setup(table, &direct, &permissions))
 }
 
 // Role requests after that set-up.
@@ -984,7 +984,7 @@ fn source_cases() -> bool {
     permissions[0] = 6;
     permissions[1] = 6;
     let answer = setup::role_setup(&mut table, &direct, &permissions);
-    if !show(200, roles::number(answer), 0) {
+    if !show(200, requests::number(answer), 0) {
         return false;
     }
     play_roles(&mut table, &SOURCE, 201)
@@ -999,7 +999,7 @@ fn listing_cases() -> bool {
     labels[7] = 9;
     labels[8] = 25;
     let answer = image::label_setup(&mut table, &clearances, &labels);
-    if !show(300, roles::number(answer), 0) {
+    if !show(300, requests::number(answer), 0) {
         return false;
     }
     play_labels(&mut table, &LISTING, 301)
@@ -1014,7 +1014,7 @@ fn confused_cases() -> bool {
     labels[1] = 9;
     labels[2] = 10;
     let answer = image::label_setup(&mut table, &clearances, &labels);
-    if !show(400, roles::number(answer), 0) {
+    if !show(400, requests::number(answer), 0) {
         return false;
     }
     play_labels(&mut table, &CONFUSED, 401)
@@ -1029,24 +1029,28 @@ fn refused_cases() -> bool {
     let labels = [0u8; 64];
     if !show(
         601,
-        roles::number(roles::request(&mut short, 4, 0, 0, 0)),
+        requests::number(roles::request(&mut short, 4, 0, 0, 0)),
         0,
     ) {
         return false;
     }
-    if !show(602, roles::number(roles::request(&mut long, 4, 0, 0, 0)), 0) {
+    if !show(
+        602,
+        requests::number(roles::request(&mut long, 4, 0, 0, 0)),
+        0,
+    ) {
         return false;
     }
     if !show(
         603,
-        roles::number(image::label_setup(&mut table, &clearances, &labels)),
+        requests::number(image::label_setup(&mut table, &clearances, &labels)),
         0,
     ) {
         return false;
     }
     show(
         604,
-        roles::number(image::label_setup(&mut table, &labels, &clearances)),
+        requests::number(image::label_setup(&mut table, &labels, &clearances)),
         0,
     )
 }

@@ -9,7 +9,7 @@ use borrow.Author.Tests.{eq-eqb}
 use Rattle.bits.specs.Words.{_and_}
 use Rattle.bits.proofs.Truth.{past, stopped, and-intro}
 use Rattle.table.specs.Table.{isTable}
-use Rattle.roles.specs.Request.{refuse, accept}
+use Rattle.requests.specs.Request.{refuse, accept}
 use Rattle.image.specs.Image.{image}
 use Rattle.machine.specs.Machine.{begin}
 use Rattle.image.specs.SetUp.{areLabels, labelSetUp}

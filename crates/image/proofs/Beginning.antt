@@ -13,7 +13,7 @@ use Rattle.bits.proofs.Below.{all-elim}
 use Rattle.table.specs.Table.{isTable}
 use Rattle.table.proofs.Table.{is-table, table-length}
 use Rattle.sound.specs.Answers.{isSound}
-use Rattle.roles.specs.Request.{Outcome}
+use Rattle.requests.specs.Request.{Outcome}
 use Rattle.machine.proofs.Seats.{idle-at}
 use Rattle.image.specs.Image.{image}
 use Rattle.machine.specs.Machine.{begin}

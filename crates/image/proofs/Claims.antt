@@ -25,7 +25,7 @@ use Rattle.table.proofs.Sound.{sound-ruled, sound-masks}
 use Rattle.table.proofs.Masks.{mask-apart}
 use Rattle.table.proofs.Table.{table-length}
 use Rattle.sound.proofs.Answers.{sound-state, sound-table}
-use Rattle.roles.proofs.Requests.{encode-sound, sound-encode}
+use Rattle.rbac.proofs.Requests.{encode-sound, sound-encode}
 use Rattle.machine.specs.Machine.{Machine}
 use Rattle.image.specs.Image as image
 use Rattle.image.specs.Image.{above, clearedRoles, seatRoles, grantedRoles, permittedObjects}

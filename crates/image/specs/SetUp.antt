@@ -1,7 +1,7 @@
 -- The label set-up of 01: refusals 12, 18 and 19 in order, then the image of the machine at its start.
 use Rattle.bits.specs.Words.{ℕ, Bool, not, List, eqb, ltb, length, getD, _and_, if_then_else_, all}
 use Rattle.table.specs.Table.{isTable}
-use Rattle.roles.specs.Request.{Outcome, refuse, accept}
+use Rattle.requests.specs.Request.{Outcome, refuse, accept}
 use Rattle.machine.specs.Machine.{begin}
 use Rattle.image.specs.Image.{image}
 

@@ -1,8 +1,8 @@
 // The image of a machine state: the test for it, and the label set-up.
 use machine::Label;
 use machine::Standing;
-use roles::Answer;
-use roles::Refusal;
+use requests::Answer;
+use requests::Refusal;
 use table::layout::ACTIVE;
 use table::layout::ASSIGNED;
 use table::layout::DIRECT;
@@ -16,7 +16,7 @@ ghost use lib.ListN.{length, getD};
 ghost use Rattle.bits.specs.Words.{_with_, pack, tabulate};
 ghost use Rattle.table.specs.Reading.{state};
 ghost use Rattle.table.specs.Table.{tableLength};
-ghost use Rattle.roles.specs.Answer.{numberOf};
+ghost use Rattle.requests.specs.Answer.{numberOf};
 ghost use Rattle.machine.specs.Label.{stands};
 ghost use Rattle.image.specs.Image.{image, above, clearedRoles, seatRoles};
 ghost use Rattle.image.specs.Test.{seatOf, linksFit, permissionsFit, usersFit, objectsFit, levelsFit, IsLabel, showsImage};

@@ -6,7 +6,7 @@ use mathlib.Core.List.{List}
 use lib.Dec.{eqb}
 use Rattle.bits.proofs.Truth.{if-true, if-false, past, stopped}
 use Rattle.table.specs.Reading.{state}
-use Rattle.roles.specs.Request.{Ask, ask, Outcome}
+use Rattle.requests.specs.Request.{Ask, ask, Outcome}
 use Rattle.machine.specs.Machine.{reclearing}
 use Rattle.image.specs.Test.{machineOf}
 use Rattle.labels.specs.Guard.{Plan, RoleGuard, single, reclearPlan, saysYes, plan, run, carryOut}

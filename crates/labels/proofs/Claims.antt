@@ -12,8 +12,8 @@ use Rattle.table.specs.Table.{isTable}
 use Rattle.table.specs.Reading.{state}
 use Rattle.sound.specs.Answers.{isSound}
 use Rattle.sound.proofs.Answers.{sound-state, sound-table}
-use Rattle.roles.specs.Request.{Ask, Outcome}
-use Rattle.roles.specs.Guard.{roleStep}
+use Rattle.requests.specs.Request.{Ask, Outcome}
+use Rattle.rbac.specs.Guard.{roleStep}
 use Rattle.machine.specs.Machine.{Request, opening, closing, starting, ending, reclearing, isCode, inRange, decode}
 use Rattle.image.specs.Test.{machineOf, isImage}
 use Rattle.labels.specs.Guard.{Plan, single, reclearPlan, plan, carryOut, labelStep}

@@ -6,8 +6,8 @@ use mathlib.Core.List.{List}
 use borrow.Author.Tests.{eq-eqb, ne-eqb}
 use Rattle.bits.proofs.Truth.{confirmed, refuted}
 use Rattle.table.specs.Reading.{state}
-use Rattle.roles.specs.Request.{Ask, ask, Outcome}
-use Rattle.roles.specs.Guard.{soundStep}
+use Rattle.requests.specs.Request.{Ask, ask, Outcome}
+use Rattle.rbac.specs.Guard.{soundStep}
 use Rattle.machine.specs.Machine.{reclearing}
 use Rattle.image.specs.Test.{labelOf, machineOf}
 use Rattle.labels.specs.Guard.{saysYes, plan, carryOut}

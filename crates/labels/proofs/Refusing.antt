@@ -10,9 +10,9 @@ use Rattle.table.specs.Sound.{sound}
 use Rattle.table.specs.Reading.{state}
 use Rattle.table.specs.Table.{tableLength, isTable}
 use Rattle.table.proofs.Table.{is-table}
-use Rattle.roles.specs.Request.{Ask, ask, refuse}
-use Rattle.roles.specs.Guard.{roleStep, soundStep}
-use Rattle.roles.proofs.Codes.{NoneTo, none-left}
+use Rattle.requests.specs.Request.{Ask, ask, refuse}
+use Rattle.rbac.specs.Guard.{roleStep, soundStep}
+use Rattle.rbac.proofs.Codes.{NoneOf, none-left}
 use Rattle.machine.specs.Machine.{isCode, inRange, decode}
 use Rattle.machine.proofs.Steps.{code-elim}
 use Rattle.image.specs.Test.{isImage}
@@ -25,8 +25,8 @@ module _ (q : Ask) where
   unfolding isCode
   is-code l h = and-intro (le-leb 1 (q .code) l) (le-leb (q .code) 5 h)
 
-  pub no-code : NoneTo 5 (q .code) → isCode q ≡ false
-  no-code k = is-false (λ e. none-left 5 k (code-elim q e))
+  pub no-code : NoneOf 0 5 (q .code) → isCode q ≡ false
+  no-code k = is-false (λ e. none-left 0 5 k (code-elim q e))
 
 -- ---- refusals
 

@@ -2,9 +2,9 @@
 use Prim.Native.Nat.{ℕ}
 use mathlib.Core.Path.{_≡_, sym, ap, _∙_}
 use mathlib.Core.List.{List}
-use Rattle.roles.specs.Request.{Outcome, refuse}
-use Rattle.roles.specs.Guard.{soundStep}
-use Rattle.roles.specs.Answer.{numberOf}
+use Rattle.requests.specs.Request.{Outcome, refuse}
+use Rattle.rbac.specs.Guard.{soundStep}
+use Rattle.requests.specs.Answer.{numberOf}
 use Rattle.machine.specs.Machine.{Request}
 use Rattle.labels.specs.declared.LabelAnswer.{LabelAnswer}
 use Rattle.labels.specs.Guard.{plan, carryOut}

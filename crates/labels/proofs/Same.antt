@@ -9,10 +9,10 @@ use Rattle.bits.specs.Words.{_with_}
 use Rattle.bits.proofs.Truth.{by-truth}
 use Rattle.table.specs.Reading.{state}
 use Rattle.sound.specs.Answers.{isSound}
-use Rattle.roles.specs.Request.{Ask, ask, Outcome}
-use Rattle.roles.specs.Guard.{roleStep, soundStep}
-use Rattle.roles.proofs.Claims.{served-same}
-use Rattle.roles.proofs.Steps.{step-sound}
+use Rattle.requests.specs.Request.{Ask, ask, Outcome}
+use Rattle.rbac.specs.Guard.{roleStep, soundStep}
+use Rattle.rbac.proofs.Claims.{served-same}
+use Rattle.rbac.proofs.Steps.{step-sound}
 use Rattle.machine.specs.Machine.{Request, opening, closing, starting, ending, reclearing, isCode, inRange, decode}
 use Rattle.image.specs.Test.{machineOf}
 use Rattle.labels.specs.Guard.{single, reclearPlan, saysYes, plan, run, carryOut, translated}

@@ -2,7 +2,7 @@
 use Rattle.bits.specs.Words.{ℕ, _≤_, _≡_, true, List}
 use Rattle.table.specs.Reading.{state}
 use Rattle.sound.specs.Answers.{isSound}
-use Rattle.roles.specs.Request.{Ask}
+use Rattle.requests.specs.Request.{Ask}
 use Rattle.image.specs.Test.{isImage}
 use Rattle.labels.specs.Guard.{labelStep, imageStep}
 

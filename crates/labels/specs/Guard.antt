@@ -3,8 +3,8 @@ use Rattle.bits.specs.Words.{ℕ, _+_, Bool, not, List, [], _∷_, eqb, length,
 use Rattle.table.specs.Sound.{sound}
 use Rattle.table.specs.Table.{isTable}
 use Rattle.table.specs.Reading.{state}
-use Rattle.roles.specs.Request.{Ask, ask, Outcome, refuse}
-use Rattle.roles.specs.Guard.{roleStep, soundStep}
+use Rattle.requests.specs.Request.{Ask, ask, Outcome, refuse}
+use Rattle.rbac.specs.Guard.{roleStep, soundStep}
 use Rattle.machine.specs.Machine.{Request, opening, closing, starting, ending, reclearing, isCode, inRange, decode}
 use Rattle.image.specs.Test.{machineOf, isImage}
 

@@ -1,7 +1,7 @@
 -- What a label request answers, in 01's numbers. `Replied` serves the contracts of the private functions.
 use Rattle.bits.specs.Words.{ℕ, _≡_, List}
-use Rattle.roles.specs.Request.{Outcome}
-use Rattle.roles.specs.Answer.{numberOf}
+use Rattle.requests.specs.Request.{Outcome}
+use Rattle.requests.specs.Answer.{numberOf}
 use Rattle.labels.specs.declared.LabelAnswer.{LabelAnswer}
 
 -- the answer, the figure and the table are those of the outcome

@@ -1,6 +1,6 @@
 // The label layer: five label requests on a lent table, carried out by role requests.
-use roles::Answer;
-use roles::Refusal;
+use requests::Answer;
+use requests::Refusal;
 use table::layout::ASSIGNED;
 use table::layout::WORDS;
 ghost use mathlib.Core.Path.{_≡_};
@@ -11,9 +11,9 @@ ghost use lib.ListN.{length, getD};
 ghost use Rattle.bits.specs.Words.{_with_};
 ghost use Rattle.table.specs.Reading.{state};
 ghost use Rattle.table.specs.Table.{tableLength};
-ghost use Rattle.roles.specs.Request.{ask};
-ghost use Rattle.roles.specs.Guard.{soundStep};
-ghost use Rattle.roles.specs.Answer.{numberOf};
+ghost use Rattle.requests.specs.Request.{ask};
+ghost use Rattle.rbac.specs.Guard.{soundStep};
+ghost use Rattle.requests.specs.Answer.{numberOf};
 ghost use Rattle.machine.specs.Machine.{reclearing, limits, inRange, decode};
 ghost use Rattle.labels.specs.Guard.{single, saysYes, plan, carryOut, labelStep, imageStep};
 ghost use Rattle.labels.specs.Reply.{Replied};
@@ -40,7 +40,7 @@ fn is_yes(t: &mut [u64], code: u64, a: u64, b: u64) -> bool
     ensures answer { λ r. ⌜ r ≡ saysYes soundStep (now (t .entry)) (ask code a b 0) ⌝ }
     ensures table { λ r. ⌜ now (t .exit) ≡ soundStep (now (t .entry)) (ask code a b 0) .state ⌝ }
 {
-    roles::number(roles::serve(t, code, a, b, 0)) == 1
+    requests::number(roles::serve(t, code, a, b, 0)) == 1
 }
 
 // A label request that is one role request.
@@ -118,7 +118,7 @@ fn serve_code(t: &mut [u64], code: u64, largest: [u64; 3], a: u64, b: u64, c: u6
     ensures spent { λ r. ⌜ r .spent ≡ imageStep (now (t .entry)) (ask code a b c) .spent ⌝ }
     ensures table { λ r. ⌜ now (t .exit) ≡ imageStep (now (t .entry)) (ask code a b c) .state ⌝ }
 {
-    if !roles::within(largest, a, b, c) {
+    if !requests::within(largest, a, b, c) {
         return refused(Refusal::BadArgument);
     }
     perform(t, code, a, b, c)

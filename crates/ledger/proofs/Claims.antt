@@ -10,11 +10,11 @@ use Rattle.bits.specs.Words.{_and_, if_then_else_}
 use Rattle.bits.proofs.Truth.{if-false}
 use Rattle.table.specs.Reading.{state}
 use Rattle.table.specs.Table.{encode}
-use Rattle.roles.specs.Request.{Ask, ask, Outcome, refuse, decide, accept}
-use Rattle.roles.specs.Roles.{decode, allowed, changed}
-use Rattle.roles.specs.Guard.{roleStep}
-use Rattle.roles.proofs.Steps.{by-step, decided, step-sound}
-use Rattle.roles.proofs.Claims.{served-same}
+use Rattle.requests.specs.Request.{Ask, ask, Outcome, refuse, decide, accept}
+use Rattle.rbac.specs.Roles.{decode, allowed, changed}
+use Rattle.rbac.specs.Guard.{roleStep}
+use Rattle.rbac.proofs.Steps.{by-step, decided, step-sound}
+use Rattle.rbac.proofs.Claims.{served-same}
 use Rattle.setup.proofs.Claims.{set-up-sound, set-up-refused}
 use Rattle.entries.specs.Words.{dueOf}
 use Rattle.entries.specs.declared.Mode.{Mode}

@@ -6,7 +6,7 @@ use mathlib.Core.List.{List}
 use borrow.Author.Tests.{eq-eqb, ne-eqb}
 use Rattle.bits.proofs.Truth.{if-true, if-false}
 use Rattle.table.specs.Table.{isTable}
-use Rattle.roles.specs.Request.{Ask, ask, Outcome, refuse, accept}
+use Rattle.requests.specs.Request.{Ask, ask, Outcome, refuse, accept}
 use Rattle.lines.specs.declared.Line.{Line}
 use Rattle.entries.specs.Words.{dueOf}
 use Rattle.entries.specs.declared.Mode.{Mode}

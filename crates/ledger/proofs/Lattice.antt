@@ -11,7 +11,7 @@ use Rattle.bits.specs.Words.{_and_}
 use Rattle.bits.proofs.Truth.{by-truth, and-left, and-right}
 use Rattle.table.specs.Table.{isTable}
 use Rattle.sound.specs.Answers.{isSound}
-use Rattle.roles.specs.Request.{Ask, Outcome, refuse, decide, accept}
+use Rattle.requests.specs.Request.{Ask, Outcome, refuse, decide, accept}
 use Rattle.machine.specs.Machine.{Machine, isCode, inRange, decode, allowed, step, begin}
 use Rattle.machine.proofs.Steps.{step-code, step-argument, step-act}
 use Rattle.image.specs.Image.{image}

@@ -2,7 +2,7 @@
 use Prim.Native.Nat.{ℕ}
 use mathlib.Core.Path.{_≡_, sym, ap, _∙_}
 use mathlib.Core.List.{List}
-use Rattle.roles.specs.Request.{Outcome}
+use Rattle.requests.specs.Request.{Outcome}
 use Rattle.lines.specs.declared.Line.{Line}
 use Rattle.entries.specs.Words.{dueOf}
 use Rattle.entries.specs.declared.Due.{Due}

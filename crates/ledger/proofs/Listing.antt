@@ -8,7 +8,7 @@ use lib.Seq.{set-out}
 use borrow.Author.Tests.{le-leb, lt-leb}
 use Rattle.bits.specs.Words.{_with_}
 use Rattle.bits.proofs.Truth.{and-intro, false-and, and-false, past, stopped}
-use Rattle.roles.specs.Request.{Outcome, refuse, accept}
+use Rattle.requests.specs.Request.{Outcome, refuse, accept}
 use Rattle.ledger.specs.Store.{added, stored, Comes}
 
 -- as the code answers: an outcome that another equals

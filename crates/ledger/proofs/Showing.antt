@@ -15,12 +15,12 @@ use Rattle.table.specs.Table.{isTable}
 use Rattle.table.specs.Reading.{state}
 use Rattle.sound.specs.Answers.{isSound}
 use Rattle.sound.proofs.Answers.{sound-state, sound-table}
-use Rattle.roles.specs.Request.{Ask, ask, Outcome, refuse, decide, accept}
-use Rattle.roles.specs.Roles.{inRange, decode, known, allowed, changed}
-use Rattle.roles.specs.Guard.{roleStep}
-use Rattle.roles.proofs.Codes.{is-code, no-pair}
-use Rattle.roles.proofs.Serving.{served-known, served-unknown}
-use Rattle.roles.proofs.Guarding.{checked-argument, checked-served, role-step-sound}
+use Rattle.requests.specs.Request.{Ask, ask, Outcome, refuse, decide, accept}
+use Rattle.rbac.specs.Roles.{inRange, decode, known, allowed, changed}
+use Rattle.rbac.specs.Guard.{roleStep}
+use Rattle.rbac.proofs.Codes.{is-code, no-pair}
+use Rattle.rbac.proofs.Serving.{served-known, served-unknown}
+use Rattle.rbac.proofs.Guarding.{checked-argument, checked-served, role-step-sound}
 use Rattle.closure.specs.Closure.{closure, acyclic}
 use Rattle.setup.proofs.SetUp.{set-up-cycle, set-up-accepted}
 use Rattle.image.specs.SetUp.{areLabels}

@@ -11,11 +11,11 @@ use Rattle.bits.specs.Words.{_and_}
 use Rattle.bits.proofs.Truth.{by-truth, and-left, and-right}
 use Rattle.table.specs.Table.{isTable}
 use Rattle.table.specs.Reading.{state}
-use Rattle.roles.specs.Request.{Ask, Outcome, refuse, decide, accept}
-use Rattle.roles.specs.Roles.{isCode, inRange, carriesBadPair, decode, known}
-use Rattle.roles.specs.Guard.{allowedSound, changedSound, soundStep}
-use Rattle.roles.proofs.Serving.{served-known, served-unknown}
-use Rattle.roles.proofs.Guarding.{checked-code, checked-argument, checked-pair, sound-step-table, sound-step-short, sound-step-served}
+use Rattle.requests.specs.Request.{Ask, Outcome, refuse, decide, accept}
+use Rattle.rbac.specs.Roles.{isCode, inRange, carriesBadPair, decode, known}
+use Rattle.rbac.specs.Guard.{allowedSound, changedSound, soundStep}
+use Rattle.rbac.proofs.Serving.{served-known, served-unknown}
+use Rattle.rbac.proofs.Guarding.{checked-code, checked-argument, checked-pair, sound-step-table, sound-step-short, sound-step-served}
 use Rattle.closure.specs.Closure.{closure, acyclic}
 use Rattle.setup.specs.SetUp.{roleSetUp}
 use Rattle.setup.proofs.SetUp.{set-up-short, set-up-lists, set-up-cycle, set-up-accepted}

@@ -1,7 +1,7 @@
 -- What a line of a transcript comes to: its answer, what it spends, and what is kept after it.
 use Rattle.bits.specs.Words.{ℕ, List, eqb, if_then_else_}
-use Rattle.roles.specs.Request.{Ask, ask, Outcome, refuse, accept}
-use Rattle.roles.specs.Guard.{roleStep, soundStep}
+use Rattle.requests.specs.Request.{Ask, ask, Outcome, refuse, accept}
+use Rattle.rbac.specs.Guard.{roleStep, soundStep}
 use Rattle.setup.specs.SetUp.{roleSetUp}
 use Rattle.image.specs.SetUp.{labelSetUp}
 use Rattle.labels.specs.Guard.{labelStep, imageStep}

@@ -1,7 +1,7 @@
 -- What a transcript keeps from line to line, and how a set-up line changes a list.
 use Rattle.bits.specs.Words.{ℕ, _≡_, not, List, leb, getD, _and_, if_then_else_, _with_}
 use lib.ListN.{set}
-use Rattle.roles.specs.Request.{Outcome, refuse, accept}
+use Rattle.requests.specs.Request.{Outcome, refuse, accept}
 use Rattle.entries.specs.declared.Phase.{Phase}
 
 pub record Store : Type 0 where

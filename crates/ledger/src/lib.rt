@@ -5,7 +5,7 @@ use entries::Phase;
 use entries::Setting;
 use lines::Line;
 ghost use mathlib.Core.Path.{_≡_};
-ghost use Rattle.roles.specs.Request.{ask};
+ghost use Rattle.requests.specs.Request.{ask};
 ghost use Rattle.ledger.specs.Store.{store, added, stored, Comes};
 ghost use Rattle.ledger.specs.Step.{outcome, unguarded, asked, setUpBy, phaseAfter, step};
 
@@ -64,7 +64,7 @@ fn serve_request(m: Mode, table: &mut [u64], code: u64, a: u64, b: u64, c: u64) 
 {
     match m {
         Mode::RoleMode => {
-            let n = roles::number(roles::serve(table, code, a, b, c));
+            let n = requests::number(roles::serve(table, code, a, b, c));
             if 1 < n {
                 return Verdict {
                     answer: n,
@@ -80,7 +80,7 @@ fn serve_request(m: Mode, table: &mut [u64], code: u64, a: u64, b: u64, c: u64) 
             let r = labels::serve(table, code, a, b, c);
             let answer = r.answer;
             Verdict {
-                answer: roles::number(answer),
+                answer: requests::number(answer),
                 spent: r.spent,
             }
         }
@@ -99,8 +99,8 @@ fn set_up(
     ensures { λ r. ⌜ Comes (now (table .exit)) r 0 (setUpBy m (now (table .entry)) (now (juniors .entry)) (now (permissions .entry)) (now (clearances .entry)) (now (labels .entry))) ⌝ }
 {
     match m {
-        Mode::RoleMode => roles::number(setup::role_setup(table, juniors, permissions)),
-        Mode::LatticeMode => roles::number(image::label_setup(table, clearances, labels)),
+        Mode::RoleMode => requests::number(setup::role_setup(table, juniors, permissions)),
+        Mode::LatticeMode => requests::number(image::label_setup(table, clearances, labels)),
     }
 }
 

@@ -8,10 +8,9 @@ use lib.Dec.{eqb}
 use borrow.Author.Tests.{leb-true}
 use Rattle.bits.specs.Words.{_and_, if_then_else_, all}
 use Rattle.bits.proofs.Truth.{by-truth, and-intro, and-left, and-right, past, stopped}
-use Rattle.roles.specs.Request.{Ask, ask, Outcome, refuse, decide}
-use Rattle.roles.proofs.Serving.{decide-yes, decide-no}
-use Rattle.roles.proofs.Codes.{within-elim}
-use Rattle.roles.proofs.Requests.{within-intro}
+use Rattle.requests.specs.Request.{Ask, ask, Outcome, refuse, decide}
+use Rattle.requests.proofs.Outcome.{decide-yes, decide-no}
+use Rattle.requests.proofs.Arguments.{within-elim, within-intro}
 use Rattle.machine.proofs.Order.{dominates}
 use Rattle.machine.specs.Machine.{Machine, idle, at, isIdle, mayOpen, fits, withSeat, withOpenings, withHeld, withClearance, Request, opening, closing, starting, ending, reclearing, isCode, limits, inRange, decode, allowed, next, figure, act, step}
 

@@ -1,7 +1,7 @@
 -- Laws of traces and of the state after a list of requests, for any guard. Assumes nothing.
 use mathlib.Core.Path.{_≡_, refl, ap, _∙_}
 use mathlib.Core.List.{List, [], _∷_, _++_}
-use Rattle.roles.specs.Request.{Ask, Outcome}
+use Rattle.requests.specs.Request.{Ask, Outcome}
 use Rattle.machine.specs.Wall.{Event, trace, final}
 
 -- a request and what it came to

@@ -9,8 +9,8 @@ use lib.Dec.{eqb}
 use borrow.Author.Tests.{eq-eqb, eqb-true}
 use Rattle.bits.specs.Words.{_and_, if_then_else_}
 use Rattle.bits.proofs.Truth.{clash, and-intro, and-left, and-right}
-use Rattle.table.proofs.Agree.{upd-same, upd-other}
-use Rattle.roles.specs.Request.{Ask, Outcome}
+use Rattle.bits.proofs.Upd.{upd-same, upd-other}
+use Rattle.requests.specs.Request.{Ask, Outcome}
 use Rattle.machine.specs.Machine.{Machine, idle, at, isIdle, mayOpen, Request, opening, closing, starting, ending, reclearing, allowed, next, step}
 use Rattle.machine.specs.Wall.{Event, trace, yesTo, upToEnd, lives, opened, same, through}
 use Rattle.machine.specs.Claims.{Walled}

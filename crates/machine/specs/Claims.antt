@@ -1,7 +1,7 @@
 -- What is claimed of labels and of the machine, each as the answer to a question. proofs/Claims.antt proves them.
 use mathlib.Core.Logic.{_↔_}
 use Rattle.bits.specs.Words.{ℕ, _≤_, _<_, _≡_, true, List, has}
-use Rattle.roles.specs.Request.{Ask}
+use Rattle.requests.specs.Request.{Ask}
 use Rattle.machine.specs.declared.Standing.{Standing}
 use Rattle.machine.specs.declared.Standing.the-variants.{Equal, Above, Below, Apart}
 use Rattle.machine.specs.Label.{class, brands, stands, equalOrAbove}

@@ -1,6 +1,6 @@
 -- Requests with their answers, and what the lives of sessions carry from column to column in them (01, "Labels").
 use Rattle.bits.specs.Words.{ℕ, Bool, List, [], _∷_, List·Memᴰ, eqb, _and_, if_then_else_}
-use Rattle.roles.specs.Request.{Ask, ask, Outcome}
+use Rattle.requests.specs.Request.{Ask, ask, Outcome}
 
 -- a request, its answer and its figure
 pub record Event : Type 0 where

@@ -14,7 +14,7 @@ use Rattle.bits.proofs.Members.{each-elim, each-counter}
 use Rattle.table.specs.Table.{isTable, encode}
 use Rattle.table.proofs.Table.{is-table, table-length}
 use Rattle.sound.proofs.Answers.{shown-sound}
-use Rattle.roles.specs.Request.{Outcome, refuse, accept}
+use Rattle.requests.specs.Request.{Outcome, refuse, accept}
 use Rattle.closure.specs.Closure.{closure, acyclic}
 use Rattle.setup.specs.SetUp.{fresh, roleSetUp}
 use Rattle.setup.specs.Claims.{Cycle, CycleRefused, SetUpSound, SetUpRefused, OldContents}

@@ -9,7 +9,7 @@ use borrow.Author.Tests.{eq-eqb}
 use Rattle.bits.specs.Words.{_and_}
 use Rattle.bits.proofs.Truth.{past, stopped, and-intro}
 use Rattle.table.specs.Table.{isTable, encode}
-use Rattle.roles.specs.Request.{refuse, accept}
+use Rattle.requests.specs.Request.{refuse, accept}
 use Rattle.closure.specs.Closure.{closure, acyclic}
 use Rattle.setup.specs.SetUp.{fresh, roleSetUp}
 

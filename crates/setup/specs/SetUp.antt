@@ -4,7 +4,7 @@ use Rattle.bits.specs.Words.{ℕ, not, List, eqb, length, getD, _and_, if_then_
 use Rattle.bits.specs.Sets.{_without_}
 use Rattle.table.specs.State.{State}
 use Rattle.table.specs.Table.{isTable, encode}
-use Rattle.roles.specs.Request.{Outcome, refuse, accept}
+use Rattle.requests.specs.Request.{Outcome, refuse, accept}
 use Rattle.closure.specs.Closure.{closure, acyclic}
 
 -- nobody is assigned or granted anything, all sessions are idle and may open nothing, and no set is in use

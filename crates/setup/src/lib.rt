@@ -1,6 +1,6 @@
 // The role set-up.
-use roles::Answer;
-use roles::Refusal;
+use requests::Answer;
+use requests::Refusal;
 use table::layout::ASSIGNED;
 use table::layout::DIRECT;
 use table::layout::PERMITTED;
@@ -9,7 +9,7 @@ ghost use mathlib.Core.Path.{_≡_};
 ghost use lib.ListN.{length, getD};
 ghost use Rattle.bits.specs.Words.{tabulate};
 ghost use Rattle.bits.specs.Sets.{_without_};
-ghost use Rattle.roles.specs.Answer.{numberOf};
+ghost use Rattle.requests.specs.Answer.{numberOf};
 ghost use Rattle.setup.specs.SetUp.{roleSetUp};
 
 // The direct juniors as given, without own bits.

@@ -1,7 +1,7 @@
 // The guard for programs in C and Rust: each function under its plain name, with the same equations.
 use machine::Label;
-use roles::Answer;
-use roles::Refusal;
+use requests::Answer;
+use requests::Refusal;
 use table::layout::MASKS;
 use table::layout::WORDS;
 ghost use mathlib.Core.Path.{_≡_};
@@ -11,9 +11,9 @@ ghost use lib.ListN.{length};
 ghost use Rattle.bits.specs.Words.{_and_, tabulate};
 ghost use Rattle.table.specs.Reading.{state};
 ghost use Rattle.table.specs.Table.{tableLength};
-ghost use Rattle.roles.specs.Request.{ask};
-ghost use Rattle.roles.specs.Guard.{roleStep};
-ghost use Rattle.roles.specs.Answer.{numberOf};
+ghost use Rattle.requests.specs.Request.{ask};
+ghost use Rattle.rbac.specs.Guard.{roleStep};
+ghost use Rattle.requests.specs.Answer.{numberOf};
 ghost use Rattle.setup.specs.SetUp.{roleSetUp};
 ghost use Rattle.alike.specs.Likeness.{likeness};
 ghost use Rattle.image.specs.SetUp.{labelSetUp};
@@ -31,7 +31,7 @@ pub extern "C" fn sheetguard_role_setup(
     ensures answer { λ n. ⌜ n ≡ roleSetUp (now (table .entry)) (now (juniors .entry)) (now (permissions .entry)) .answer ⌝ }
     ensures table { λ n. ⌜ now (table .exit) ≡ roleSetUp (now (table .entry)) (now (juniors .entry)) (now (permissions .entry)) .state ⌝ }
 {
-    roles::number(setup::role_setup(table, juniors, permissions))
+    requests::number(setup::role_setup(table, juniors, permissions))
 }
 
 // A role request.
@@ -46,7 +46,7 @@ pub extern "C" fn sheetguard_role_request(
     ensures answer { λ n. ⌜ n ≡ roleStep (now (table .entry)) (ask code a b c) .answer ⌝ }
     ensures table { λ n. ⌜ now (table .exit) ≡ roleStep (now (table .entry)) (ask code a b c) .state ⌝ }
 {
-    roles::number(roles::request(table, code, a, b, c))
+    requests::number(roles::request(table, code, a, b, c))
 }
 
 // Likeness of two tables.
@@ -54,7 +54,7 @@ pub extern "C" fn sheetguard_role_request(
 pub extern "C" fn sheetguard_alike(first: &[u64], second: &[u64]) -> u64
     ensures { λ n. ⌜ n ≡ likeness (now (first .entry)) (now (second .entry)) ⌝ }
 {
-    roles::number(alike::alike(first, second))
+    requests::number(alike::alike(first, second))
 }
 
 // The label set-up: 64 clearances and 64 object labels.
@@ -63,7 +63,7 @@ pub extern "C" fn sheetguard_label_setup(table: &mut [u64], clearances: &[u8], l
     ensures answer { λ n. ⌜ n ≡ labelSetUp (now (table .entry)) (now (clearances .entry)) (now (labels .entry)) .answer ⌝ }
     ensures table { λ n. ⌜ now (table .exit) ≡ labelSetUp (now (table .entry)) (now (clearances .entry)) (now (labels .entry)) .state ⌝ }
 {
-    roles::number(image::label_setup(table, clearances, labels))
+    requests::number(image::label_setup(table, clearances, labels))
 }
 
 // A label request; the number of role requests made for it is put into spent.
@@ -83,7 +83,7 @@ pub extern "C" fn sheetguard_label_request(
     let r = labels::request(table, code, a, b, c);
     *spent = r.spent;
     let answer = r.answer;
-    roles::number(answer)
+    requests::number(answer)
 }
 
 // Whether both numbers are labels.
@@ -102,7 +102,7 @@ pub extern "C" fn sheetguard_compare_labels(first: u64, second: u64) -> u64
     ensures { λ n. ⌜ n ≡ compareLabels first second ⌝ }
 {
     if !are_labels(first, second) {
-        return roles::number(Answer::Refused(Refusal::BadArgument));
+        return requests::number(Answer::Refused(Refusal::BadArgument));
     }
     let label = Label { number: first };
     label.compare(Label { number: second }).number()
@@ -156,7 +156,7 @@ pub extern "C" fn sheetguard_effective_permissions(
     ensures answer { λ n. ⌜ n ≡ readPermissions (now (table .entry)) session (now (masks .entry)) .answer ⌝ }
     ensures words { λ n. ⌜ now (masks .exit) ≡ readPermissions (now (table .entry)) session (now (masks .entry)) .words ⌝ }
 {
-    let n = roles::number(readable(table, is_known(session, 32, masks.len(), 8)));
+    let n = requests::number(readable(table, is_known(session, 32, masks.len(), 8)));
     if n != 1 {
         return n;
     }
@@ -170,7 +170,7 @@ pub extern "C" fn sheetguard_authorised_roles(table: &[u64], user: u64, roles: &
     ensures answer { λ n. ⌜ n ≡ readRoles (now (table .entry)) user (now (roles .entry)) .answer ⌝ }
     ensures words { λ n. ⌜ now (roles .exit) ≡ readRoles (now (table .entry)) user (now (roles .entry)) .words ⌝ }
 {
-    let n = roles::number(readable(table, is_known(user, 64, roles.len(), 1)));
+    let n = requests::number(readable(table, is_known(user, 64, roles.len(), 1)));
     if n != 1 {
         return n;
     }

@@ -15,7 +15,7 @@ use Rattle.table.specs.Changes.{setMasks, withAssigned, withOwner, withActive, 
 use Rattle.table.specs.Masks.{maskOf, refreshedAt}
 use Rattle.table.proofs.Agree.{Agree, agree-refl, agree-sym, agree-trans, agree-set-assigned, agree-set-owner, agree-set-active, agree-set-holds, agree-set-masks, mask-agree, upd-same, upd-other, agree-with-holds, agree-own-assigned, by-upd}
 use Rattle.table.proofs.Masks.{mask-apart}
-use Rattle.table.proofs.Upd.{upd-ap, upd-twice}
+use Rattle.bits.proofs.Upd.{upd-ap, upd-twice}
 use Rattle.machine.specs.Machine as machine
 use Rattle.machine.specs.Machine.{Machine, Seat, at, mayOpen, withSeat, withOpenings, withHeld, withClearance}
 use Rattle.machine.proofs.Seats.{idle-at, same-user, same-level}

@@ -4,9 +4,9 @@ use mathlib.Core.Path.{_≡_, refl, sym, ap, _∙_}
 use mathlib.Core.Bool.{Bool, true, false}
 use mathlib.Core.List.{List}
 use Rattle.bits.proofs.Truth.{by-truth}
-use Rattle.roles.specs.Request.{Ask, Outcome, refuse, decide}
-use Rattle.roles.specs.Guard.{roleStep}
-use Rattle.roles.proofs.Serving.{decide-yes, decide-no}
+use Rattle.requests.specs.Request.{Ask, Outcome, refuse, decide}
+use Rattle.rbac.specs.Guard.{roleStep}
+use Rattle.requests.proofs.Outcome.{decide-yes, decide-no}
 use Rattle.machine.specs.Machine.{Machine}
 use Rattle.image.specs.Image.{image}
 use Rattle.labels.specs.Guard.{single, saysYes, carryOut}

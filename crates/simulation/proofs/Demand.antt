@@ -4,7 +4,7 @@ use mathlib.Core.Path.{_≡_, sym, ap, subst}
 use mathlib.Core.Bool.{true}
 use mathlib.Core.List.{List}
 use lib.ListN.{getD}
-use Rattle.roles.specs.Request.{Ask, Outcome}
+use Rattle.requests.specs.Request.{Ask, Outcome}
 use Rattle.machine.proofs.Order.{dominates}
 use Rattle.machine.specs.Machine.{Machine, step, begin}
 use Rattle.machine.specs.Wall.{Event, trace, final, Carried}

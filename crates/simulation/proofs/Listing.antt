@@ -10,7 +10,7 @@ use borrow.Author.Tests.{eqb-true, eqb-false, le-leb, lt-leb}
 use Rattle.bits.proofs.Truth.{by-truth, if-true, if-false}
 use Rattle.bits.specs.Words.{tabulate}
 use Rattle.bits.proofs.Tabulate.{length-tabulate, tabulate-cong}
-use Rattle.roles.specs.Request.{Ask, Outcome, refuse}
+use Rattle.requests.specs.Request.{Ask, Outcome, refuse}
 use Rattle.machine.specs.Wall.{Event, trace, final}
 use Rattle.machine.proofs.Tracing.{trace-none, trace-first, final-none, final-first}
 use Rattle.labels.specs.Guard.{imageStep}

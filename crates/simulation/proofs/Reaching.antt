@@ -10,7 +10,7 @@ use Rattle.bits.proofs.Truth.{clash, by-truth, same-truth, if-true, if-false, a
 use Rattle.bits.proofs.Below.{all-intro}
 use Rattle.table.proofs.Agree.{by-upd, upd-same}
 use Rattle.bits.proofs.Tabulate.{length-tabulate, getD-tabulate}
-use Rattle.roles.specs.Request.{ask, Outcome}
+use Rattle.requests.specs.Request.{ask, Outcome}
 use Rattle.machine.proofs.Order.{dominates}
 use Rattle.machine.specs.Machine.{Machine, Seat, idle, at, isIdle, mayOpen, withHeld, withSeat, step, begin}
 use Rattle.machine.proofs.Seats.{idle-at}

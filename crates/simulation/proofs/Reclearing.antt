@@ -20,10 +20,10 @@ use Rattle.table.specs.Table.{encode}
 use Rattle.table.proofs.Agree.{upd-same}
 use Rattle.table.proofs.Encode.{state-encode, encode-cong}
 use Rattle.sound.specs.Answers.{sessionsFit}
-use Rattle.roles.specs.Request.{ask, decide}
-use Rattle.roles.specs.Guard.{roleStep}
-use Rattle.roles.proofs.Requests.{next-sound, assign-is, deassign-is}
-use Rattle.roles.proofs.Serving.{decide-yes, decide-no}
+use Rattle.requests.specs.Request.{ask, decide}
+use Rattle.rbac.specs.Guard.{roleStep}
+use Rattle.rbac.proofs.Requests.{next-sound, assign-is, deassign-is}
+use Rattle.requests.proofs.Outcome.{decide-yes, decide-no}
 use Rattle.machine.proofs.Order.{dominates}
 use Rattle.machine.specs.Machine as machine
 use Rattle.machine.specs.Machine.{Machine, Seat, at, fits, withClearance, reclearing, act}

@@ -11,8 +11,8 @@ use Rattle.table.proofs.Agree.{by-upd}
 use Rattle.table.proofs.Encode.{state-encode}
 use Rattle.sound.specs.Answers.{isSound}
 use Rattle.sound.proofs.Answers.{sound-state, sound-table}
-use Rattle.roles.specs.Request.{Ask, Outcome}
-use Rattle.roles.specs.Guard.{roleStep}
+use Rattle.requests.specs.Request.{Ask, Outcome}
+use Rattle.rbac.specs.Guard.{roleStep}
 use Rattle.machine.specs.Machine as machine
 use Rattle.machine.specs.Machine.{Machine, Request, isCode, inRange, step}
 use Rattle.machine.proofs.Steps.{Decoded, is-opening, is-closing, is-starting, is-ending, is-reclearing, decoded, step-code, step-argument, step-does, Case, stays, goes, cases}

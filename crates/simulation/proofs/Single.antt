@@ -16,9 +16,9 @@ use Rattle.table.specs.Sound as table
 use Rattle.table.specs.Table.{encode}
 use Rattle.table.proofs.Agree.{Agree, agree-trans, agree-with-holds}
 use Rattle.table.proofs.Encode.{encode-cong}
-use Rattle.roles.specs.Request.{decide}
-use Rattle.roles.specs.Guard.{roleStep}
-use Rattle.roles.proofs.Requests.{open-is, close-is, start-is, end-is}
+use Rattle.requests.specs.Request.{decide}
+use Rattle.rbac.specs.Guard.{roleStep}
+use Rattle.rbac.proofs.Requests.{open-is, close-is, start-is, end-is}
 use Rattle.machine.specs.Machine as machine
 use Rattle.machine.specs.Machine.{Machine, at, withSeat, withOpenings, Request, opening, closing, starting, ending, act}
 use Rattle.machine.proofs.Steps.{act-opening, act-closing, act-starting, act-ending}

@@ -8,7 +8,7 @@ use lib.Dec.{eqb}
 use borrow.Author.Tests.{eqb-true, eqb-false}
 use Rattle.bits.proofs.Truth.{by-truth}
 use Rattle.bits.specs.Words.{tabulate}
-use Rattle.roles.specs.Request.{Ask}
+use Rattle.requests.specs.Request.{Ask}
 use Rattle.machine.specs.Machine.{Machine, idle, step, begin}
 use Rattle.machine.specs.Wall.{final}
 use Rattle.machine.proofs.Tracing.{final-last}

@@ -10,7 +10,7 @@ use Rattle.table.specs.Reading.{state}
 use Rattle.table.proofs.Table.{table-length}
 use Rattle.sound.specs.Answers.{isSound}
 use Rattle.sound.proofs.Answers.{is-sound-table}
-use Rattle.roles.specs.Request.{Ask, Outcome}
+use Rattle.requests.specs.Request.{Ask, Outcome}
 use Rattle.machine.specs.Machine.{Machine, step}
 use Rattle.machine.proofs.Steps.{Case, stays, goes, cases}
 use Rattle.image.specs.Image.{image}

@@ -5,7 +5,7 @@ use Rattle.bits.specs.Words.{ℕ, _^_, _<_, _≡_, true, List}
 use Rattle.table.specs.Table.{isTable}
 use Rattle.table.specs.Reading.{word, state}
 use Rattle.sound.specs.Answers.{isSound}
-use Rattle.roles.specs.Request.{Ask}
+use Rattle.requests.specs.Request.{Ask}
 use Rattle.machine.specs.Machine.{Machine, step, begin}
 use Rattle.machine.specs.Wall.{final}
 use Rattle.image.specs.Image.{image}

@@ -1,6 +1,6 @@
 -- Demand 3 of 01, one claim about a whole list of label requests after an accepted label set-up.
 use Rattle.bits.specs.Words.{ℕ, _≡_, true, List, getD}
-use Rattle.roles.specs.Request.{Ask}
+use Rattle.requests.specs.Request.{Ask}
 use Rattle.machine.specs.Label.{stands, equalOrAbove}
 use Rattle.machine.specs.Machine.{begin, step}
 use Rattle.machine.specs.Wall.{trace, final, Carried}

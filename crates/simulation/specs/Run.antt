@@ -2,7 +2,7 @@
 -- arguments; the replies go into lent words, two each: answer and figure.
 use Rattle.bits.specs.Words.{ℕ, _+_, _*_, _/_, _%_, Bool, not, List, [], _∷_, eqb, leb, length, getD, _and_, if_then_else_, tabulate}
 use Rattle.table.specs.Table.{isTable}
-use Rattle.roles.specs.Request.{Ask, ask, Outcome, refuse}
+use Rattle.requests.specs.Request.{Ask, ask, Outcome, refuse}
 use Rattle.machine.specs.Machine.{step, begin}
 use Rattle.machine.specs.Wall.{Event, trace, final}
 use Rattle.image.specs.Image.{image}

@@ -1,12 +1,12 @@
 // A label set-up and a list of label requests in one call.
 use labels::LabelAnswer;
-use roles::Answer;
-use roles::Refusal;
+use requests::Answer;
+use requests::Refusal;
 use table::layout::WORDS;
 ghost use mathlib.Core.Path.{_≡_};
 ghost use Prim.Native.Nat.{_*_, _/_};
 ghost use lib.ListN.{length};
-ghost use Rattle.roles.specs.Answer.{numberOf};
+ghost use Rattle.requests.specs.Answer.{numberOf};
 ghost use Rattle.machine.specs.Wall.{trace, final};
 ghost use Rattle.labels.specs.Guard.{imageStep};
 ghost use Rattle.simulation.specs.Run.{serveAt, asks, flat, machineRun};
@@ -38,7 +38,7 @@ fn serve_all(t: &mut [u64], words: &[u64], replies: &mut [u64])
     for i in 0..words.len() / 4 {
         let r = serve_at(t, words, i);
         let answer = r.answer;
-        replies[2 * i] = roles::number(answer);
+        replies[2 * i] = requests::number(answer);
         replies[2 * i + 1] = r.spent;
     }
 }
@@ -65,7 +65,7 @@ pub fn run(
         return Answer::Refused(Refusal::BadListLength);
     }
     let answer = image::label_setup(t, clearances, labels);
-    if roles::number(answer) != 1 {
+    if requests::number(answer) != 1 {
         return answer;
     }
     serve_all(t, words, replies);

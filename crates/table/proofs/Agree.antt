@@ -26,9 +26,9 @@ use Rattle.table.proofs.State.{may-activate-idle, may-activate-busy}
 use Rattle.table.proofs.Seniority.{linked-closure, linked-agree}
 use Rattle.table.proofs.Separation.{separated-elim, separated-intro, separated-less}
 use Rattle.table.proofs.Sound.{ruled-elim, ruled-intro, sound-ruled, sound-masks, sound-intro}
-use Rattle.table.proofs.Upd.{row-agree, grid-agree}
+use Rattle.bits.proofs.Upd.{row-agree, grid-agree}
 use Rattle.table.proofs.Encode.{encode-cong, agreed}
-pub use Rattle.table.proofs.Upd.{upd-same, upd-other, by-upd, upd-own, grid-same, by-grid, upd-agree}
+pub use Rattle.bits.proofs.Upd.{upd-same, upd-other, by-upd, upd-own, grid-same, by-grid, upd-agree}
 pub use Rattle.table.proofs.Encode.{Agree}
 
 pub agree-refl : (S : State) → Agree S S

@@ -16,7 +16,7 @@ use Rattle.table.specs.Changes.{withAssigned, withGranted, withOwner, wi
 use Rattle.table.specs.Reading.{juniorsAt, permittedAt, assignedAt, grantedAt, ownerAt, activeAt, holdsAt, setsAt, directAt, masksAt, word, state}
 use Rattle.table.specs.Table.{tableLength, encode}
 use Rattle.bits.proofs.Tabulate.{length-tabulate, getD-tabulate, tabulate-cong}
-use Rattle.table.proofs.Upd.{upd-same, upd-other, by-upd}
+use Rattle.bits.proofs.Upd.{upd-same, upd-other, by-upd}
 
 -- ---- agreement, over the users, roles, objects, sessions and modes that there are
 

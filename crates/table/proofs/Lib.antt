@@ -1,6 +1,5 @@
 -- The crate's laws, in reading order.
 pub mod State
-pub mod Upd
 pub mod Seniority
 pub mod Separation
 pub mod Masks

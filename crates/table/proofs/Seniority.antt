@@ -19,7 +19,7 @@ use Rattle.closure.proofs.Closure.{reaches-through, closure-reaches, reaches-cl
 use Rattle.closure.proofs.Links.{more, linked-more, linked-apart}
 use Rattle.table.specs.State.{State}
 use Rattle.table.specs.Seniority.{links, ownClear, closed, Linked}
-use Rattle.table.proofs.Upd.{upd-same, upd-other, by-upd}
+use Rattle.bits.proofs.Upd.{upd-same, upd-other, by-upd}
 
 -- the closure of the links of role r
 abbrev pub closedRow : (ℕ → ℕ) → ℕ → ℕ

@@ -5,7 +5,7 @@ use mathlib.Core.Bool.{Bool, true, false}
 use mathlib.Core.List.{List, [], _∷_, _++_}
 use lib.Dec.{eqb}
 use Rattle.bits.specs.Words.{if_then_else_}
-use Rattle.roles.specs.Request.{Outcome}
+use Rattle.requests.specs.Request.{Outcome}
 use Rattle.lines.specs.Reader.{stepOf, finished}
 use Rattle.lines.specs.declared.Reader.the-variants.{Letters}
 use Rattle.output.specs.Text.{row}

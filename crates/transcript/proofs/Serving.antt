@@ -11,7 +11,7 @@ use lib.Seq.{sets, drop-drop}
 use borrow.Author.Tests.{eq-eqb, ne-eqb, lt-ltb, le-ltb}
 use Rattle.bits.specs.Words.{_and_, if_then_else_}
 use Rattle.bits.proofs.Truth.{clash, if-true, if-false, or-left, or-right, false-or}
-use Rattle.roles.specs.Request.{Outcome}
+use Rattle.requests.specs.Request.{Outcome}
 use Rattle.lines.specs.Reader.{stepOf, finished, fresh, fed}
 use Rattle.lines.specs.declared.Line.{Line}
 use Rattle.lines.specs.declared.Reader.{Reader}

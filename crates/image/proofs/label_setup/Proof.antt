@@ -4,7 +4,7 @@ use mathlib.Core.Path.{refl}
 use borrow.Author.Tests.{ne-eqb}
 use Rattle.bits.proofs.Truth.{confirmed, refuted, false-and, and-false}
 use Rattle.table.proofs.Table.{is-table, not-table}
-use Rattle.roles.proofs.Guarding.{comes-to, refused, both}
+use Rattle.requests.proofs.Outcome.{comes-to, refused, both}
 use Rattle.image.proofs.Accepting.{set-up-short, set-up-lists, set-up-values, set-up-accepted}
 use Rattle.image.proofs.label_setup.Statement.{statement}
 use Rattle.image.proofs.label_setup.Tie as tie

@@ -2,8 +2,8 @@
 use borrow.Author.Needs.{needs}
 use Prim.Native.Nat.{ℕ}
 use mathlib.Core.Path.{sym, ap}
-use Rattle.roles.specs.Request.{ask}
-use Rattle.roles.specs.Guard.{soundStep}
+use Rattle.requests.specs.Request.{ask}
+use Rattle.rbac.specs.Guard.{soundStep}
 use Rattle.machine.proofs.Steps.{opening-code, closing-code, starting-code, ending-code, reclearing-code, start-level, reclear-user, fifth}
 use Rattle.labels.specs.Guard.{single, plan, carryOut}
 use Rattle.labels.proofs.Replying.{replied-as, planned-as}

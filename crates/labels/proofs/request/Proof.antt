@@ -4,7 +4,7 @@ use mathlib.Core.Path.{sym}
 use Rattle.bits.proofs.Truth.{confirmed, refuted}
 use Rattle.table.proofs.Table.{is-table, not-table}
 use Rattle.sound.proofs.Answers.{sound-state, unsound-state}
-use Rattle.roles.specs.Request.{ask}
+use Rattle.requests.specs.Request.{ask}
 use Rattle.image.proofs.Reading.{shows-image, shows-none}
 use Rattle.labels.proofs.Refusing.{label-step-short, label-step-unsound, label-step-none}
 use Rattle.labels.proofs.Replying.{clauses-as, refused-clauses}

@@ -3,9 +3,9 @@ use borrow.Author.Needs.{needs}
 use mathlib.Core.Path.{refl, _∙_}
 use native.Mathlib.Omega.{arith}
 use Rattle.table.proofs.Table.{is-table, not-table}
-use Rattle.roles.specs.Request.{ask}
-use Rattle.roles.specs.Guard.{soundStep}
-use Rattle.roles.proofs.Codes.{NoneTo}
+use Rattle.requests.specs.Request.{ask}
+use Rattle.rbac.specs.Guard.{soundStep}
+use Rattle.rbac.proofs.Codes.{NoneOf}
 use Rattle.machine.specs.Machine.{limits}
 use Rattle.labels.proofs.Refusing.{no-code, translated-code, image-step-short, image-step-table}
 use Rattle.labels.proofs.Replying.{refused-clauses}
@@ -20,7 +20,7 @@ returns c =
 
 -- a code without an arm
 no-arm : tie.Need-returns-7
-unfolding NoneTo
+unfolding NoneOf
 no-arm c =
     let whole = c .before .before in
     let a = whole .before .before .args in

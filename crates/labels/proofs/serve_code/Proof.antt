@@ -3,9 +3,9 @@ use borrow.Author.Needs.{needs}
 use mathlib.Core.Path.{_≡_, _∙_}
 use Rattle.bits.proofs.Truth.{confirmed, refuted}
 use Rattle.table.proofs.Table.{is-table}
-use Rattle.roles.specs.Request.{ask}
-use Rattle.roles.specs.Guard.{soundStep}
-use Rattle.roles.proofs.Requests.{within-row}
+use Rattle.requests.specs.Request.{ask}
+use Rattle.rbac.specs.Guard.{soundStep}
+use Rattle.requests.proofs.Arguments.{within-row}
 use Rattle.machine.specs.Machine.{inRange}
 use Rattle.labels.proofs.Refusing.{is-code, translated-argument, image-step-table, image-step-plan}
 use Rattle.labels.proofs.Replying.{clauses, replied-as, refused-clauses}

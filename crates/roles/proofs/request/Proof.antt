@@ -4,8 +4,9 @@ use mathlib.Core.Path.{sym}
 use Rattle.bits.proofs.Truth.{confirmed, refuted}
 use Rattle.table.proofs.Table.{is-table, not-table}
 use Rattle.sound.proofs.Answers.{sound-state, unsound-state}
-use Rattle.roles.proofs.Same.{step-same}
-use Rattle.roles.proofs.Guarding.{role-step-short, role-step-unsound, comes-to, refused, both, both-to}
+use Rattle.rbac.proofs.Same.{step-same}
+use Rattle.rbac.proofs.Guarding.{role-step-short, role-step-unsound}
+use Rattle.requests.proofs.Outcome.{comes-to, refused, both, both-to}
 use Rattle.roles.proofs.request.Statement.{statement}
 use Rattle.roles.proofs.request.Tie as tie
 

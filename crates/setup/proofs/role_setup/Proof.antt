@@ -9,7 +9,7 @@ use Rattle.closure.specs.Closure.{closure, acyclic}
 use Rattle.closure.proofs.Closure.{closure-own}
 use Rattle.table.specs.Answers.{overlay, clearedFrom}
 use Rattle.table.proofs.Table.{is-table, not-table}
-use Rattle.roles.proofs.Guarding.{comes-to, refused, both}
+use Rattle.requests.proofs.Outcome.{comes-to, refused, both}
 use Rattle.setup.proofs.Fresh.{written-fresh}
 use Rattle.setup.proofs.SetUp.{set-up-short, set-up-lists, set-up-cycle, set-up-accepted}
 use Rattle.setup.proofs.role_setup.Statement.{statement}

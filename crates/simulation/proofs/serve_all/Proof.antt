@@ -4,7 +4,7 @@ use Prim.Native.Nat.{ℕ, _-_, _/_}
 use mathlib.Core.Path.{ap, _∙_}
 use mathlib.Core.List.{List}
 use lib.ListN.{length}
-use Rattle.roles.specs.Request.{Outcome}
+use Rattle.requests.specs.Request.{Outcome}
 use Rattle.labels.specs.Guard.{imageStep}
 use Rattle.simulation.proofs.Listing.{Serving, second-place, serve-start, serve-step, served-table, served-replies, serve-here}
 use Rattle.simulation.proofs.serve_all.Statement.{statement}

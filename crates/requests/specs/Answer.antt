@@ -1,0 +1,23 @@
+-- The number of every answer and every refusal in 01 and 02.
+use Rattle.bits.specs.Words.{ℕ}
+use Rattle.requests.specs.declared.Refusal.{Refusal}
+use Rattle.requests.specs.declared.Refusal.the-variants.{WrongLength, Unsound, NoImage, BadCode, BadArgument, NoPermission, BadListLength, BadValue, Cycle, BadPair}
+use Rattle.requests.specs.declared.Answer.{Answer}
+use Rattle.requests.specs.declared.Answer.the-variants.{Yes, No, Refused}
+
+abbrev pub refusalNumber : Refusal → ℕ
+refusalNumber WrongLength = 12
+refusalNumber Unsound = 13
+refusalNumber NoImage = 14
+refusalNumber BadCode = 15
+refusalNumber BadArgument = 16
+refusalNumber NoPermission = 17
+refusalNumber BadListLength = 18
+refusalNumber BadValue = 19
+refusalNumber Cycle = 20
+refusalNumber BadPair = 21
+
+abbrev pub numberOf : Answer → ℕ
+numberOf Yes = 1
+numberOf No = 0
+numberOf (Refused r) = refusalNumber r

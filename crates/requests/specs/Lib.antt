@@ -1,0 +1,3 @@
+-- The crate's definitions, in reading order.
+pub mod Request
+pub mod Answer

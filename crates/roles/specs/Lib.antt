@@ -1,9 +1,0 @@
--- The crate's definitions, in reading order.
-pub mod Request
-pub mod Roles
-pub mod Guard
-pub mod Answer
-pub mod Source
-pub mod Claims
-pub mod Seniority
-pub mod Served

@@ -1,0 +1,166 @@
+// The requests of sessions, codes 1 to 6: open, close, start, end, activate and drop.
+use requests::Answer;
+use requests::Refusal;
+use table::layout::ACTIVE;
+use table::layout::HOLDS;
+use table::layout::MASKS;
+use table::layout::OWNER;
+use table::layout::WORDS;
+ghost use mathlib.Core.Path.{_≡_};
+ghost use Prim.Native.Nat.{_+_, _≤_};
+ghost use lib.ListN.{length};
+ghost use Rattle.bits.specs.Words.{tabulate};
+ghost use Rattle.table.specs.Answers.{overlay};
+ghost use Rattle.table.specs.Table.{tableLength};
+ghost use Rattle.requests.specs.Request.{ask};
+ghost use Rattle.requests.specs.Answer.{numberOf};
+ghost use Rattle.rbac.specs.Roles.{opens, closes, starts, ends, activates, drops, decode};
+ghost use Rattle.rbac.specs.Served.{Fit, Served};
+ghost use Rattle.sessions.specs.Sessions.{sessionStep};
+
+// Session s opens object o in mode x, where its mask has it.
+fn open(t: &mut [u64], s: usize, o: usize, x: usize) -> bool
+    requires { ⌜ Fit (now t) (opens s o x) ⌝ }
+    ensures { λ r. ⌜ Served (now (t .entry)) (now (t .exit)) r (opens s o x) ⌝ }
+{
+    if !bits::has(t[MASKS + 8 * s + x], o) {
+        return false;
+    }
+    let at = HOLDS + 8 * s + x;
+    t[at] = bits::with(t[at], o);
+    true
+}
+
+// Session s closes object o in mode x.
+fn close(t: &mut [u64], s: usize, o: usize, x: usize) -> bool
+    requires { ⌜ Fit (now t) (closes s o x) ⌝ }
+    ensures { λ r. ⌜ Served (now (t .entry)) (now (t .exit)) r (closes s o x) ⌝ }
+{
+    let at = HOLDS + 8 * s + x;
+    t[at] = bits::without(t[at], o);
+    true
+}
+
+// The idle session s is given to user u with these roles active, where all of them are authorised for u and fit the dynamic sets.
+fn start(t: &mut [u64], s: usize, u: usize, roles: u64) -> bool
+    requires { ⌜ Fit (now t) (starts s u roles) ⌝ }
+    ensures { λ r. ⌜ Served (now (t .entry)) (now (t .exit)) r (starts s u roles) ⌝ }
+{
+    if t[OWNER + s] != 0 {
+        return false;
+    }
+    if !bits::subset(roles, table::authorised_roles(t, u)) {
+        return false;
+    }
+    if !sound::dynamic_fit(t, roles) {
+        return false;
+    }
+    t[OWNER + s] = u as u64 + 1;
+    t[ACTIVE + s] = roles;
+    masks::refresh(t, s);
+    true
+}
+
+// Writes 0 into the eight words from the place at on.
+fn clear_eight(t: &mut [u64], at: usize)
+    requires { ⌜ (length (now t) ≡ tableLength) × (at + 8 ≤ tableLength) ⌝ }
+    ensures { λ r. ⌜ now (t .exit) ≡ overlay (now (t .entry)) at (tabulate 8 (λ i. 0)) ⌝ }
+{
+    for i in 0..8 {
+        t[at + i] = 0;
+    }
+}
+
+// Session s is made idle, without roles and openings, and may open nothing.
+fn end(t: &mut [u64], s: usize) -> bool
+    requires { ⌜ Fit (now t) (ends s) ⌝ }
+    ensures { λ r. ⌜ Served (now (t .entry)) (now (t .exit)) r (ends s) ⌝ }
+{
+    if t[OWNER + s] == 0 {
+        return false;
+    }
+    t[OWNER + s] = 0;
+    t[ACTIVE + s] = 0;
+    clear_eight(t, HOLDS + 8 * s);
+    clear_eight(t, MASKS + 8 * s);
+    true
+}
+
+// Role r becomes active in session s, where it is authorised and the active roles then fit the dynamic sets.
+fn activate(t: &mut [u64], s: usize, r: usize) -> bool
+    requires { ⌜ Fit (now t) (activates s r) ⌝ }
+    ensures { λ a. ⌜ Served (now (t .entry)) (now (t .exit)) a (activates s r) ⌝ }
+{
+    if !table::may_activate(t, s, r) {
+        return false;
+    }
+    let old = t[ACTIVE + s];
+    let more = bits::with(old, r);
+    if !sound::dynamic_fit(t, more) {
+        return false;
+    }
+    t[ACTIVE + s] = more;
+    if bits::has(old, r) {
+        return true;
+    }
+    masks::refresh(t, s);
+    true
+}
+
+// Role r is no longer active in session s; put back where something that s holds would not be effective.
+fn drop(t: &mut [u64], s: usize, r: usize) -> bool
+    requires { ⌜ Fit (now t) (drops s r) ⌝ }
+    ensures { λ a. ⌜ Served (now (t .entry)) (now (t .exit)) a (drops s r) ⌝ }
+{
+    let old = t[ACTIVE + s];
+    let less = bits::without(old, r);
+    t[ACTIVE + s] = less;
+    if !bits::has(old, r) {
+        return true;
+    }
+    let masks = table::effective_permissions(t, s);
+    if sound::openings_within(t, s, &masks) {
+        table::overlay(t, MASKS + 8 * s, &masks);
+        return true;
+    }
+    t[ACTIVE + s] = old;
+    false
+}
+
+// The request of a code from 1 to 6; yes or no.
+fn perform(t: &mut [u64], code: u64, a: usize, b: usize, c: usize) -> bool
+    requires { ⌜ (1 ≤ code) × (code ≤ 6) × Fit (now t) (decode (ask code a b c)) ⌝ }
+    ensures { λ r. ⌜ Served (now (t .entry)) (now (t .exit)) r (decode (ask code a b c)) ⌝ }
+{
+    match code {
+        1 => open(t, a, b, c),
+        2 => close(t, a, b, c),
+        3 => start(t, a, b, c as u64),
+        4 => end(t, a),
+        5 => activate(t, a, b),
+        _ => drop(t, a, b),
+    }
+}
+
+// A request of a session on a table that is known to be sound; another code is refused.
+pub fn serve(t: &mut [u64], code: u64, a: u64, b: u64, c: u64) -> Answer
+    ensures answer { λ r. ⌜ numberOf r ≡ sessionStep (now (t .entry)) (ask code a b c) .answer ⌝ }
+    ensures table { λ r. ⌜ now (t .exit) ≡ sessionStep (now (t .entry)) (ask code a b c) .state ⌝ }
+{
+    if code < 1 {
+        return Answer::Refused(Refusal::BadCode);
+    }
+    if 6 < code {
+        return Answer::Refused(Refusal::BadCode);
+    }
+    if t.len() != WORDS {
+        return Answer::Refused(Refusal::WrongLength);
+    }
+    if !rbac::in_range(code, a, b, c) {
+        return Answer::Refused(Refusal::BadArgument);
+    }
+    match perform(t, code, a as usize, b as usize, c as usize) {
+        true => Answer::Yes,
+        false => Answer::No,
+    }
+}
