@@ -2,7 +2,7 @@
  * A label table: a tablet at level 17 opens one column of a sheet and is refused another, for the way the labels stand.
  * Prints each answer, and stops where it is not the one that is expected.
  *
- *     cc -Iinclude examples/column.c target/staticlib/libsheetguard.a -o column && ./column
+ *     cc -Iinclude examples/column.c target/staticlib/libsheetguard.a -o target/column && target/column
  */
 #include <stdio.h>
 #include <stdlib.h>

@@ -48,7 +48,7 @@ enum {
     SHEETGUARD_YES = 1,
     SHEETGUARD_WRONG_LENGTH = 12,    /* the table has not 1,352 words */
     SHEETGUARD_UNSOUND = 13,         /* the table is not sound */
-    SHEETGUARD_NO_IMAGE = 14,        /* a label request on a sound table that no label set-up leads to */
+    SHEETGUARD_NO_IMAGE = 14,        /* a label request on a sound table that no label set-up and label requests lead to */
     SHEETGUARD_BAD_CODE = 15,        /* the code is not one of the requests */
     SHEETGUARD_BAD_ARGUMENT = 16,    /* an argument is out of range, or an unlisted one is not 0 */
     SHEETGUARD_NO_PERMISSION = 17,   /* a grant or revoke names a pair that is no permission */
@@ -68,6 +68,10 @@ enum {
 
 /*
  * Codes of role requests, with their arguments a, b, c; an argument that is not listed is 0.
+ *
+ * A session is idle until it is started, and again once it has ended. The authorised roles of a user are those assigned and
+ * all their juniors. A pair of a mode and an object is effective for a session when the set-up made it a permission and it
+ * is granted to an active role of the session or to a junior of one.
  *
  * A separation set is a set of roles and a bound: a number of these roles that nobody may have together. There are 16 static
  * sets, which look at the authorised roles of every user, with a session or without, and 16 dynamic ones, which look at the
