@@ -1,8 +1,8 @@
 -- The requests of administration on a table that is known to be sound.
-use Rattle.bits.specs.Words.{ℕ, List, leb, if_then_else_}
+use Rattle.bits.specs.Words.{ℕ, List, leb, _and_, if_then_else_}
 use Rattle.requests.specs.Request.{Ask, Outcome, refuse}
 use Rattle.rbac.specs.Guard.{soundStep}
 
--- codes from 7 on come to what the role guard answers, those above 14 among them; those below 7 are refused
+-- codes 7 to 14 come to what the role guard answers; all others are refused
 unfoldable pub administrationStep : List ℕ → Ask → Outcome (List ℕ)
-administrationStep t q = if leb 7 (q .code) then soundStep t q else refuse 15 t
+administrationStep t q = if leb 7 (q .code) and leb (q .code) 14 then soundStep t q else refuse 15 t

@@ -14,6 +14,7 @@ ghost use Rattle.table.specs.Table.{tableLength};
 ghost use Rattle.requests.specs.Request.{ask};
 ghost use Rattle.requests.specs.Answer.{numberOf};
 ghost use Rattle.rbac.specs.Roles.{assigns, deassigns, grants, revokes, separates, links, unlinks, carriesBadPair, decode};
+ghost use Rattle.rbac.specs.Guard.{soundStep};
 ghost use Rattle.rbac.specs.Served.{Fit, Served, pairKnown};
 ghost use Rattle.administration.specs.Administration.{administrationStep};
 
@@ -140,19 +141,14 @@ fn perform(t: &mut [u64], code: u64, a: usize, b: usize, c: usize) -> bool
     }
 }
 
-// A request of administration on a table that is known to be sound; another code is refused.
-pub fn serve(t: &mut [u64], code: u64, a: u64, b: u64, c: u64) -> Answer
-    ensures answer { λ r. ⌜ numberOf r ≡ administrationStep (now (t .entry)) (ask code a b c) .answer ⌝ }
-    ensures table { λ r. ⌜ now (t .exit) ≡ administrationStep (now (t .entry)) (ask code a b c) .state ⌝ }
+// The request of a code from 7 to 14 on a table that is known to be sound.
+fn serve_code(t: &mut [u64], code: u64, a: u64, b: u64, c: u64) -> Answer
+    requires { ⌜ (7 ≤ code) × (code ≤ 14) ⌝ }
+    ensures answer { λ r. ⌜ numberOf r ≡ soundStep (now (t .entry)) (ask code a b c) .answer ⌝ }
+    ensures table { λ r. ⌜ now (t .exit) ≡ soundStep (now (t .entry)) (ask code a b c) .state ⌝ }
 {
-    if code < 7 {
-        return Answer::Refused(Refusal::BadCode);
-    }
     if t.len() != WORDS {
         return Answer::Refused(Refusal::WrongLength);
-    }
-    if 14 < code {
-        return Answer::Refused(Refusal::BadCode);
     }
     if !rbac::in_range(code, a, b, c) {
         return Answer::Refused(Refusal::BadArgument);
@@ -166,5 +162,24 @@ pub fn serve(t: &mut [u64], code: u64, a: u64, b: u64, c: u64) -> Answer
     match perform(t, code, a as usize, b as usize, c as usize) {
         true => Answer::Yes,
         false => Answer::No,
+    }
+}
+
+// A request of administration on a table that is known to be sound; another code is refused. (Each arm names its code, so that
+// the compiler finds its limits and its request.)
+pub fn serve(t: &mut [u64], code: u64, a: u64, b: u64, c: u64) -> Answer
+    ensures answer { λ r. ⌜ numberOf r ≡ administrationStep (now (t .entry)) (ask code a b c) .answer ⌝ }
+    ensures table { λ r. ⌜ now (t .exit) ≡ administrationStep (now (t .entry)) (ask code a b c) .state ⌝ }
+{
+    match code {
+        7 => serve_code(t, 7, a, b, c),
+        8 => serve_code(t, 8, a, b, c),
+        9 => serve_code(t, 9, a, b, c),
+        10 => serve_code(t, 10, a, b, c),
+        11 => serve_code(t, 11, a, b, c),
+        12 => serve_code(t, 12, a, b, c),
+        13 => serve_code(t, 13, a, b, c),
+        14 => serve_code(t, 14, a, b, c),
+        _ => Answer::Refused(Refusal::BadCode),
     }
 }

@@ -12,16 +12,13 @@ pub fn serve(t: &mut [u64], code: u64, a: u64, b: u64, c: u64) -> Answer
     ensures answer { λ r. ⌜ numberOf r ≡ soundStep (now (t .entry)) (ask code a b c) .answer ⌝ }
     ensures table { λ r. ⌜ now (t .exit) ≡ soundStep (now (t .entry)) (ask code a b c) .state ⌝ }
 {
-    if 6 < code {
-        return administration::serve(t, code, a, b, c);
-    }
-    if 0 < code {
-        return sessions::serve(t, code, a, b, c);
-    }
     if t.len() != WORDS {
         return Answer::Refused(Refusal::WrongLength);
     }
-    Answer::Refused(Refusal::BadCode)
+    if 6 < code {
+        return administration::serve(t, code, a, b, c);
+    }
+    sessions::serve(t, code, a, b, c)
 }
 
 // A role request on a lent table of any length and contents.

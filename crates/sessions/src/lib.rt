@@ -15,6 +15,7 @@ ghost use Rattle.table.specs.Table.{tableLength};
 ghost use Rattle.requests.specs.Request.{ask};
 ghost use Rattle.requests.specs.Answer.{numberOf};
 ghost use Rattle.rbac.specs.Roles.{opens, closes, starts, ends, activates, drops, decode};
+ghost use Rattle.rbac.specs.Guard.{soundStep};
 ghost use Rattle.rbac.specs.Served.{Fit, Served};
 ghost use Rattle.sessions.specs.Sessions.{sessionStep};
 
@@ -142,17 +143,12 @@ fn perform(t: &mut [u64], code: u64, a: usize, b: usize, c: usize) -> bool
     }
 }
 
-// A request of a session on a table that is known to be sound; another code is refused.
-pub fn serve(t: &mut [u64], code: u64, a: u64, b: u64, c: u64) -> Answer
-    ensures answer { λ r. ⌜ numberOf r ≡ sessionStep (now (t .entry)) (ask code a b c) .answer ⌝ }
-    ensures table { λ r. ⌜ now (t .exit) ≡ sessionStep (now (t .entry)) (ask code a b c) .state ⌝ }
+// The request of a code from 1 to 6 on a table that is known to be sound.
+fn serve_code(t: &mut [u64], code: u64, a: u64, b: u64, c: u64) -> Answer
+    requires { ⌜ (1 ≤ code) × (code ≤ 6) ⌝ }
+    ensures answer { λ r. ⌜ numberOf r ≡ soundStep (now (t .entry)) (ask code a b c) .answer ⌝ }
+    ensures table { λ r. ⌜ now (t .exit) ≡ soundStep (now (t .entry)) (ask code a b c) .state ⌝ }
 {
-    if code < 1 {
-        return Answer::Refused(Refusal::BadCode);
-    }
-    if 6 < code {
-        return Answer::Refused(Refusal::BadCode);
-    }
     if t.len() != WORDS {
         return Answer::Refused(Refusal::WrongLength);
     }
@@ -162,5 +158,22 @@ pub fn serve(t: &mut [u64], code: u64, a: u64, b: u64, c: u64) -> Answer
     match perform(t, code, a as usize, b as usize, c as usize) {
         true => Answer::Yes,
         false => Answer::No,
+    }
+}
+
+// A request of a session on a table that is known to be sound; another code is refused. (Each arm names its code, so that the
+// compiler finds its limits and its request.)
+pub fn serve(t: &mut [u64], code: u64, a: u64, b: u64, c: u64) -> Answer
+    ensures answer { λ r. ⌜ numberOf r ≡ sessionStep (now (t .entry)) (ask code a b c) .answer ⌝ }
+    ensures table { λ r. ⌜ now (t .exit) ≡ sessionStep (now (t .entry)) (ask code a b c) .state ⌝ }
+{
+    match code {
+        1 => serve_code(t, 1, a, b, c),
+        2 => serve_code(t, 2, a, b, c),
+        3 => serve_code(t, 3, a, b, c),
+        4 => serve_code(t, 4, a, b, c),
+        5 => serve_code(t, 5, a, b, c),
+        6 => serve_code(t, 6, a, b, c),
+        _ => Answer::Refused(Refusal::BadCode),
     }
 }
