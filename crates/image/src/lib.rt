@@ -215,7 +215,7 @@ pub fn is_image(t: &[u64]) -> bool
     if !levels_fit(t) {
         return false;
     }
-    sound::sets_empty(t)
+    separation::sets_empty(t)
 }
 
 // How the labels of two numbers stand.

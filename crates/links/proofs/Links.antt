@@ -23,7 +23,8 @@ use Rattle.table.proofs.Table.{is-table, not-table}
 use Rattle.table.proofs.Agree.{Agree, agree-set-seniority, upd-other, by-upd}
 use Rattle.table.proofs.Encode.{encode-cong, encode-state, state-encode}
 use Rattle.sound.specs.Answers.{sessionsHold}
-use Rattle.sound.proofs.Parts.{unlink-ruled, seniority-fits}
+use Rattle.separation.proofs.Parts.{seniority-fits}
+use Rattle.sound.proofs.Parts.{unlink-ruled}
 use Rattle.links.specs.Links.{linkable, unlinkable, onTable, relinked, mayLink, afterLink, mayUnlink, afterUnlink}
 
 -- ---- on a sound state

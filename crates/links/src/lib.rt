@@ -66,7 +66,7 @@ pub fn link(t: &mut [u64], r: usize, q: usize) -> bool
     let rows = words_from(t, 0);
     let old = t[DIRECT + r];
     relink(t, r, bits::with(old, q));
-    if sound::static_sets_hold(t) {
+    if separation::static_sets_hold(t) {
         table::overlay(t, MASKS, &masks::all_masks(t));
         return true;
     }

@@ -4,7 +4,6 @@ use mathlib.Core.Path.{_≡_, sym, ap, ap₂, _∙_}
 use mathlib.Core.Bool.{Bool, true, false}
 use mathlib.Core.List.{List}
 use native.Mathlib.Nat.{zero-add}
-use native.Mathlib.Omega.{arith}
 use lib.Dec.{eqb, leb, ltb}
 use lib.ListN.{length, getD}
 use borrow.Author.Tests.{eq-eqb, eqb-true, leb-true, lt-ltb, le-ltb}
@@ -15,7 +14,7 @@ use Rattle.bits.proofs.Below.{all-intro, all-fails, all-cong}
 use Rattle.bits.proofs.Members.{each-cong, subset-pack}
 use Rattle.table.specs.State.{State}
 use Rattle.table.specs.Authority.{authorised, mayActivate, effective}
-use Rattle.table.specs.Separation.{fewer, staticSetsHold, separated}
+use Rattle.table.specs.Separation.{separated}
 use Rattle.table.specs.Masks.{maskOf}
 use Rattle.table.specs.Sound.{sound}
 use Rattle.table.specs.Answers.{coveredRoles, effectivePermissions, openable}
@@ -23,13 +22,13 @@ use Rattle.table.specs.Reading.{state}
 use Rattle.table.specs.Table.{tableLength, isTable, encode}
 use Rattle.table.proofs.Agree.{Agree, authorised-agree, may-activate-agree, effective-agree, sound-agree}
 use Rattle.table.proofs.Encode.{state-encode, encode-length}
-use Rattle.table.proofs.Separation.{fewer-cong, separated-intro}
+use Rattle.table.proofs.Separation.{separated-intro}
 use Rattle.table.proofs.Sound.{sound-ruled}
 use Rattle.table.proofs.Table.{is-table, not-table}
 use Rattle.table.proofs.Answers.{covered-roles-are, openable-is}
 use Rattle.masks.specs.Answers.{allMasks}
 use Rattle.masks.proofs.Refreshing.{all-masks-of, permissions-are}
-use Rattle.sound.specs.Answers.{isSound, openingsFit, sessionsFit, pairFits, sessionsHold, heldWithin, openingsWithin, sessionsOf, holdersOf, staticSetsOf, sessionsWithin}
+use Rattle.sound.specs.Answers.{isSound, openingsFit, sessionsFit, pairFits, sessionsHold, heldWithin, openingsWithin, sessionsOf, holdersOf, sessionsWithin}
 use Rattle.sound.specs.Tests.{rolesFit}
 
 module _ (t : List ℕ) where
@@ -201,12 +200,6 @@ module _ {S S′ : State} (a : Agree S S′) where
   sessions-hold-agree =
       all-cong 32 (λ s h. sym (and-assoc (leb (S .owner s) 64) _ _) ∙ ap₂ _and_ (roles-agree s h) (openings-agree s h) ∙ and-assoc (leb (S′ .owner s) 64) _ _)
 
-  static-agree : staticSetsHold S ≡ staticSetsHold S′
-  static-agree =
-      all-cong 16 (λ n h. all-cong 64 (λ u l.
-      ap₂ (λ (m b : ℕ). fewer m b (authorised S u)) (a .sets (2 * n) (omega arith)) (a .sets (2 * n + 1) (omega arith))
-      ∙ fewer-cong _ _ (authorised S u) (authorised S′ u) (λ q k. authorised-agree a u q l)))
-
 module _ {t : List ℕ} (S : State) (e : t ≡ encode S) where
   shows : Agree (state t) S
   shows = rw e (state-encode S)
@@ -233,10 +226,6 @@ module _ {t : List ℕ} (S : State) (e : t ≡ encode S) where
       ∙ all-cong 32 (λ s h. ap (λ (b : Bool). leb (state t .owner s) 64 and each (state t .active s) (mayActivate (state t) s) and b)
       (within-fits (state t) s (λ x. getD masks (8 * s + x) 0) (λ x hx. ap (λ (l : List ℕ). getD l (8 * s + x) 0) e ∙ all-masks-of t s x long h hx)))
       ∙ sessions-hold-agree shows
-
-  pub static-sets-shown : staticSetsOf t ≡ staticSetsHold S
-  unfolding staticSetsOf
-  static-sets-shown = true-and _ (is-table t long) ∙ static-agree shows
 
   pub shown-sound : isSound t ≡ sound S
   unfolding isSound

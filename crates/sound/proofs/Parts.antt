@@ -1,30 +1,28 @@
 -- After one change of a sound state only a part of soundness is to be tested again. Assumes nothing.
-use Prim.Native.Nat.{ℕ, suc, _+_, _*_, _-_, _≤_, _<_}
-use mathlib.Core.Path.{_≡_, refl, sym, ap, subst, _∙_}
+use Prim.Native.Nat.{ℕ, suc, _<_}
+use mathlib.Core.Path.{_≡_, refl, sym, ap, _∙_}
 use mathlib.Core.Bool.{Bool, true, false, not}
-use native.Mathlib.Nat.{zero-add}
-use native.Mathlib.Omega.{arith}
-use lib.Dec.{leb, ltb}
-use borrow.Author.Tests.{eq-eqb, eqb-true, le-leb, ltb-true, ltb-false}
+use lib.Dec.{leb}
+use borrow.Author.Tests.{eq-eqb, eqb-true, le-leb}
 use Rattle.bits.specs.Words.{_and_, _or_, upd, has, _with_}
 use Rattle.bits.specs.Sets.{each, _without_}
-use Rattle.bits.proofs.Truth.{by-truth, same-truth, and-intro, and-left, and-right, and-true, or-left, false-or, implies-intro, implies-elim, if-true, if-false}
+use Rattle.bits.proofs.Truth.{by-truth, same-truth, and-intro, and-left, and-right, or-left, false-or, implies-intro, implies-elim}
 use Rattle.bits.proofs.Below.{all-intro, all-elim}
 use Rattle.bits.proofs.Word.{without-old, without-none, without-same}
 use Rattle.bits.proofs.Members.{each-intro, each-elim}
 use Rattle.table.specs.State.{State}
-use Rattle.table.specs.Authority.{senior, covers, authorised, mayActivate}
-use Rattle.table.specs.Changes.{setSeniority, withAssigned, withGranted, withActive, withSet, withDirect}
+use Rattle.table.specs.Authority.{senior, mayActivate}
+use Rattle.table.specs.Changes.{withAssigned, withGranted, withActive, withDirect}
 use Rattle.table.specs.Seniority.{Linked}
-use Rattle.table.specs.Separation.{mask, bound, staticHolds, dynamicHolds, staticSetsHold, setsEmpty, separated, Fewer, GoodPair, Separated}
+use Rattle.table.specs.Separation.{Separated}
 use Rattle.table.specs.Sound.{ruled, Ruled}
 use Rattle.table.proofs.State.{may-activate-user}
 use Rattle.table.proofs.Sound.{ruled-intro, ruled-elim}
 use Rattle.table.proofs.Agree.{upd-same, grid-same}
 use Rattle.table.proofs.Seniority.{link-more, link-own-clear, link-one-way, unlink-less, unlink-own-clear}
-use Rattle.table.proofs.Separation.{no-roles-fewer, fewer-elim, fewer-intro, separated-elim, separated-intro, separated-less, separated-parts}
-use Rattle.table.proofs.Keeps.{set-mask, set-bound, active-separated, active-less, assigned-less, assigned-separated, set-separated, active-keeps, assigned-keeps, granted-keeps, direct-keeps, authorised-more, may-activate-more, effective-more}
-use Rattle.sound.specs.Answers.{openingsFit, sessionsFit, pairFits, sessionsHold, setsFit, pairHolds}
+use Rattle.table.proofs.Separation.{separated-less}
+use Rattle.table.proofs.Keeps.{active-less, assigned-less, active-keeps, assigned-keeps, granted-keeps, direct-keeps, authorised-more, may-activate-more, effective-more}
+use Rattle.sound.specs.Answers.{openingsFit, sessionsFit, pairFits, sessionsHold}
 
 -- what is asked only where something was there to be taken away, and holds where there was not
 asked : (there : Bool) {b c : Bool} → b ≡ c → (there ≡ false → c ≡ true) → b ≡ not there or c
@@ -139,61 +137,3 @@ module _ (S : State) (f : Ruled S) where
 
       less : (a p : ℕ) → a < 64 → p < 64 → senior S′ a p ≡ true → senior S a p ≡ true
       less = unlink-less l r q hr hq
-
--- ---- the sets, after one change of a separated state
-
-module _ (S : State) (f : Separated S) where
-  -- another seniority: only static sets can break
-  pub seniority-fits : (j d : ℕ → ℕ) → let S′ = setSeniority S j d in separated S′ ≡ staticSetsHold S′
-  seniority-fits j d =
-      separated-parts _ ∙ and-true (staticSetsHold (setSeniority S j d)) (and-right (staticSetsHold S) _ (sym (separated-parts S) ∙ separated-intro S f))
-
-  -- roles become active in a session: they must fit the dynamic sets
-  pub active-fits : (s w : ℕ) → s < 32 → separated (withActive S s w) ≡ setsFit S 16 (has w)
-  active-fits s w hs =
-      same-truth
-      (λ e. all-intro _ 16 (λ n h. fewer-intro _ _ (has w)
-      (subst (λ (v : ℕ). Fewer (mask S (16 + n)) (bound S (16 + n)) (has v)) (upd-same (S .active) s w) (separated-elim _ e .dynamic-holds n s h hs))))
-      (λ e. separated-intro _ (active-separated S f s w (λ n h. fewer-elim _ _ (has w) (all-elim _ 16 e n h))))
-
-  -- roles are assigned to a user: they and their juniors must fit the static sets
-  pub assigned-fits : (u w : ℕ) → u < 64 → separated (withAssigned S u w) ≡ setsFit S 0 (covers S w)
-  unfolding covers authorised
-  assigned-fits u w hu =
-      same-truth
-      (λ e. all-intro _ 16 (λ n h. fewer-intro _ _ (covers S w) (rw (zero-add n)
-      (subst (λ (v : ℕ). Fewer (mask S n) (bound S n) (covers S v)) (upd-same (S .assigned) u w) (separated-elim _ e .static-holds n u h hu)))))
-      (λ e. separated-intro _ (assigned-separated S f u w (λ n h. rw (zero-add n) at (fewer-elim (mask S (0 + n)) (bound S (0 + n)) (covers S w) (all-elim _ 16 e n h)))))
-
-  pair-was : (n m b : ℕ) (P : ℕ → ℕ → Type 0) → P (mask (withSet S n m b) n) (bound (withSet S n m b) n) → P m b
-  pair-was n m b P p = subst (P m) (set-bound S n m b) (subst (λ (c : ℕ). P c (bound (withSet S n m b) n)) (set-mask S n m b) p)
-
-  -- a good pair replaces pair n: it must hold
-  static-fits : (n m b : ℕ) → n < 16 → GoodPair m b → separated (withSet S n m b) ≡ staticHolds S m b
-  unfolding covers authorised
-  static-fits n m b h g =
-      same-truth
-      (λ e. all-intro _ 64 (λ u hu. fewer-intro m b _
-      (pair-was n m b (λ c d. Fewer c d (authorised S u)) (separated-elim _ e .static-holds n u h hu))))
-      (λ e. separated-intro _ (set-separated S f n m b g (λ u l hu. fewer-elim m b _ (all-elim _ 64 e u hu)) (λ s l hs. absurd (omega arith))))
-
-  dynamic-fits : (n m b : ℕ) → n < 16 → GoodPair m b → separated (withSet S (16 + n) m b) ≡ dynamicHolds S m b
-  dynamic-fits n m b h g =
-      same-truth
-      (λ e. all-intro _ 32 (λ s hs. fewer-intro m b _
-      (pair-was (16 + n) m b (λ c d. Fewer c d (has (S .active s))) (separated-elim _ e .dynamic-holds n s h hs))))
-      (λ e. separated-intro _ (set-separated S f (16 + n) m b g (λ u l hu. absurd (omega arith)) (λ s l hs. fewer-elim m b _ (all-elim _ 32 e s hs))))
-
-  pub pair-fits : (n m b : ℕ) → n < 32 → GoodPair m b → separated (withSet S n m b) ≡ pairHolds S n m b
-  unfolding pairHolds
-  pair-fits n m b h g =
-      by-truth (ltb n 16)
-      (λ l. static-fits n m b (ltb-true n 16 l) g ∙ sym (if-true _ _ l))
-      (λ l.
-      let k = ltb-false n 16 l in
-      let e : n ≡ 16 + (n - 16) = omega arith in
-      ap (λ (i : ℕ). separated (withSet S i m b)) e ∙ dynamic-fits (n - 16) m b (omega arith) g ∙ sym (if-false _ _ l))
-
--- where no set is in use any roles fit
-pub empty-fits : (S : State) (first : ℕ) (f : ℕ → Bool) → first ≤ 16 → setsEmpty S ≡ true → setsFit S first f ≡ true
-empty-fits S first f h e = all-intro _ 16 (λ n l. no-roles-fewer _ _ f (eqb-true _ 0 (all-elim _ 64 e (2 * (first + n)) (omega arith))))

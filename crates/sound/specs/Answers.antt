@@ -1,10 +1,9 @@
 -- What the public functions answer, for a list of any length and any number: no, where the list is no table or there is no
 -- such session, user, mode or object. `isSound` is 01's soundness; the others are the part of it that one change can break.
-use Rattle.bits.specs.Words.{ℕ, suc, _+_, _*_, Bool, List, eqb, leb, ltb, getD, _and_, _implies_, if_then_else_, has, all, subset}
+use Rattle.bits.specs.Words.{ℕ, suc, _+_, _*_, Bool, List, eqb, leb, ltb, getD, _and_, _implies_, has, all, subset}
 use Rattle.bits.specs.Sets.{each}
 use Rattle.table.specs.State.{State}
-use Rattle.table.specs.Authority.{covers, authorised, mayActivate, effective}
-use Rattle.table.specs.Separation.{mask, bound, fewer, staticHolds, dynamicHolds, staticSetsHold, setsEmpty}
+use Rattle.table.specs.Authority.{authorised, mayActivate, effective}
 use Rattle.table.specs.Sound.{sound}
 use Rattle.table.specs.Table.{isTable}
 use Rattle.table.specs.Reading.{state}
@@ -25,17 +24,9 @@ sessionsFit S u = all 32 (λ s. eqb (S .owner s) (suc u) implies each (S .active
 unfoldable pub pairFits : State → ℕ → ℕ → Bool
 pairFits S x o = all 32 (λ s. has (S .holds s x) o implies effective S s x o)
 
--- the roles include fewer of each of the 16 sets from pair first on than its bound
-abbrev pub setsFit : State → ℕ → (ℕ → Bool) → Bool
-setsFit S first roles = all 16 (λ n. fewer (mask S (first + n)) (bound S (first + n)) roles)
-
 -- every session: its word is at most 64, its active roles are authorised for it, and all that it holds open is effective
 unfoldable pub sessionsHold : State → Bool
 sessionsHold S = all 32 (λ s. leb (S .owner s) 64 and each (S .active s) (mayActivate S s) and openingsFit S s)
-
--- the mask and the bound as pair n hold: as a static set below 16, else as a dynamic one
-unfoldable pub pairHolds : State → ℕ → ℕ → ℕ → Bool
-pairHolds S n m b = if ltb n 16 then staticHolds S m b else dynamicHolds S m b
 
 -- all that session s holds open is in these eight masks
 unfoldable pub heldWithin : State → ℕ → (ℕ → ℕ) → Bool
@@ -44,29 +35,13 @@ heldWithin S s masks = all 8 (λ x. subset (S .holds s x) (masks x))
 unfoldable pub openingsWithin : List ℕ → ℕ → List ℕ → Bool
 openingsWithin t s masks = isTable t and ltb s 32 and heldWithin (state t) s (λ x. getD masks x 0)
 
+-- the same of every session, with the masks of all in the order of the table, and its active roles are authorised for it
+unfoldable pub sessionsWithin : List ℕ → List ℕ → Bool
+sessionsWithin t masks =
+    isTable t and all 32 (λ s. leb (state t .owner s) 64 and each (state t .active s) (mayActivate (state t) s) and heldWithin (state t) s (λ x. getD masks (8 * s + x) 0))
+
 unfoldable pub sessionsOf : List ℕ → ℕ → Bool
 sessionsOf t u = isTable t and ltb u 64 and sessionsFit (state t) u
 
 unfoldable pub holdersOf : List ℕ → ℕ → ℕ → Bool
 holdersOf t x o = isTable t and ltb x 8 and ltb o 64 and pairFits (state t) x o
-
-unfoldable pub setsEmptyOf : List ℕ → Bool
-setsEmptyOf t = isTable t and setsEmpty (state t)
-
--- the roles, assigned to a user, and all their juniors fit the static sets; the roles, active in a session, fit the dynamic ones
-unfoldable pub staticFitOf : List ℕ → ℕ → Bool
-staticFitOf t roles = isTable t and setsFit (state t) 0 (covers (state t) roles)
-
-unfoldable pub dynamicFitOf : List ℕ → ℕ → Bool
-dynamicFitOf t roles = isTable t and setsFit (state t) 16 (has roles)
-
-unfoldable pub pairHoldsOf : List ℕ → ℕ → ℕ → ℕ → Bool
-pairHoldsOf t n m b = isTable t and ltb n 32 and pairHolds (state t) n m b
-
-unfoldable pub staticSetsOf : List ℕ → Bool
-staticSetsOf t = isTable t and staticSetsHold (state t)
-
--- the same of every session, with the masks of all in the order of the table, and its active roles are authorised for it
-unfoldable pub sessionsWithin : List ℕ → List ℕ → Bool
-sessionsWithin t masks =
-    isTable t and all 32 (λ s. leb (state t .owner s) 64 and each (state t .active s) (mayActivate (state t) s) and heldWithin (state t) s (λ x. getD masks (8 * s + x) 0))

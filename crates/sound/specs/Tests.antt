@@ -1,10 +1,9 @@
 -- What the private functions that make up the soundness test answer, item by item. No promise rests on this page: the public
 -- test is held to `sound`, and that these items come to it is proved.
-use Rattle.bits.specs.Words.{ℕ, Bool, not, eqb, leb, _and_, _or_, has, all, pack, _with_}
+use Rattle.bits.specs.Words.{ℕ, Bool, not, eqb, leb, _and_, _or_, all, pack, _with_}
 use Rattle.bits.specs.Sets.{each}
 use Rattle.table.specs.State.{State}
-use Rattle.table.specs.Authority.{permission, covers, authorised, mayActivate}
-use Rattle.sound.specs.Answers.{setsFit}
+use Rattle.table.specs.Authority.{permission, covers, mayActivate}
 
 -- the direct juniors of r and all their juniors, r not among them, are with r its juniors
 unfoldable pub roleFits : State → ℕ → Bool
@@ -21,10 +20,3 @@ grantsFit S x = all 64 (λ o. grantFits S x o)
 -- the session's word is at most 64, and its active roles are authorised for it
 unfoldable pub rolesFit : State → ℕ → Bool
 rolesFit S s = leb (S .owner s) 64 and each (S .active s) (λ r. mayActivate S s r)
-
--- the authorised roles of every user fit the static sets, and the active roles of every session the dynamic ones
-abbrev pub usersSeparate : State → Bool
-usersSeparate S = all 64 (λ u. setsFit S 0 (authorised S u))
-
-abbrev pub sessionsSeparate : State → Bool
-sessionsSeparate S = all 32 (λ s. setsFit S 16 (has (S .active s)))

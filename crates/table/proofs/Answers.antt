@@ -4,10 +4,10 @@ use mathlib.Core.Path.{_≡_, sym, ap, _∙_}
 use mathlib.Core.Bool.{true, false}
 use mathlib.Core.List.{List, [], _∷_}
 use native.Mathlib.Nat.{zero-add}
-use lib.Dec.{leb, ltb}
+use lib.Dec.{eqb, leb, ltb}
 use lib.ListN.{length, getD}
 use borrow.Author.Tests.{leb-true, le-leb, lt-leb, ltb-true, lt-ltb, le-ltb}
-use Rattle.bits.specs.Words.{_and_, if_then_else_, has, subset, pack, tabulate}
+use Rattle.bits.specs.Words.{_and_, if_then_else_, has, all, subset, pack, tabulate}
 use Rattle.bits.specs.Sets.{each, overlap}
 use Rattle.bits.proofs.Truth.{clash, is-false, and-intro, and-left, and-right, true-and, false-and, and-false, if-true, if-false}
 use Rattle.bits.proofs.Word.{has-zero, has-all, pack-cong, pack-none}
@@ -16,7 +16,7 @@ use Rattle.table.specs.State.{State}
 use Rattle.table.specs.Authority.{permission, covers, authorised, mayActivate, effective}
 use Rattle.table.specs.Reading.{word, state}
 use Rattle.table.specs.Table.{tableLength, isTable}
-use Rattle.table.specs.Answers.{coveredRoles, seniorRoles, authorisedRoles, effectivePermissions, activatable, openable, overlay, clearedFrom}
+use Rattle.table.specs.Answers.{coveredRoles, seniorRoles, authorisedRoles, effectivePermissions, activatable, openable, wordsEmpty, overlay, clearedFrom}
 use Rattle.table.proofs.State.{effective-is}
 use Rattle.table.proofs.Table.{is-table, table-length}
 use Rattle.bits.proofs.Tabulate.{length-tabulate, getD-tabulate, tabulate-cong}
@@ -147,6 +147,23 @@ module _ (t : List ℕ) where
 
   pub not-openable : (s x o : ℕ) → (Openable t s x o → ⊥) → false ≡ openable t s x o
   not-openable s x o k = sym (is-false (λ e. k (openable-elim s x o e)))
+
+-- ---- words that are 0
+
+module _ (t : List ℕ) (at n : ℕ) where
+  pub words-empty-are : length t ≡ tableLength → at + n ≤ tableLength → all n (λ i. eqb (word t (at + i)) 0) ≡ wordsEmpty t at n
+  unfolding wordsEmpty
+  words-empty-are e h = sym (true-and _ (is-table t e) ∙ true-and _ (le-leb (at + n) tableLength h))
+
+  pub words-empty-elim : wordsEmpty t at n ≡ true → all n (λ i. eqb (word t (at + i)) 0) ≡ true
+  unfolding wordsEmpty
+  words-empty-elim e = and-right (leb (at + n) tableLength) _ (and-right (isTable t) _ e)
+
+  -- an answer that the length or a bound forbids
+  pub not-words-empty : (length t ≡ tableLength → at + n ≤ tableLength → ⊥) → false ≡ wordsEmpty t at n
+  unfolding wordsEmpty
+  not-words-empty k =
+      sym (is-false (λ e. k (table-length t (and-left _ _ e)) (leb-true (at + n) tableLength (and-left _ _ (and-right (isTable t) _ e)))))
 
 -- ---- the words that the writing functions leave
 

@@ -1,10 +1,10 @@
 -- What the public functions answer, for a list of any length and any number: nothing of a list that is no table, nor of a
 -- user, session, mode or object that there is not.
-use Rattle.bits.specs.Words.{ℕ, _+_, _-_, Bool, List, leb, ltb, length, getD, _and_, if_then_else_, pack, tabulate}
+use Rattle.bits.specs.Words.{ℕ, _+_, _-_, Bool, List, eqb, leb, ltb, length, getD, _and_, if_then_else_, all, pack, tabulate}
 use Rattle.bits.specs.Sets.{overlap}
 use Rattle.table.specs.Authority.{covers, authorised, mayActivate, effective}
-use Rattle.table.specs.Table.{isTable}
-use Rattle.table.specs.Reading.{state}
+use Rattle.table.specs.Table.{tableLength, isTable}
+use Rattle.table.specs.Reading.{word, state}
 
 -- the roles and all their juniors
 unfoldable pub coveredRoles : List ℕ → ℕ → ℕ
@@ -30,6 +30,10 @@ activatable t s r = isTable t and ltb s 32 and ltb r 64 and leb (state t .owner 
 -- (x, o) is effective for session s
 unfoldable pub openable : List ℕ → ℕ → ℕ → ℕ → Bool
 openable t s x o = isTable t and ltb s 32 and ltb x 8 and ltb o 64 and effective (state t) s x o
+
+-- the n words from the place at on are 0
+unfoldable pub wordsEmpty : List ℕ → ℕ → ℕ → Bool
+wordsEmpty t at n = isTable t and leb (at + n) tableLength and all n (λ i. eqb (word t (at + i)) 0)
 
 -- ---- what the writing functions leave, of a list of any length
 

@@ -16,7 +16,7 @@ ghost use Rattle.table.specs.Authority.{permission, covers};
 ghost use Rattle.table.specs.Reading.{word, state};
 ghost use Rattle.table.specs.Table.{tableLength};
 ghost use Rattle.table.specs.Answers;
-ghost use Rattle.table.specs.Answers.{coveredRoles, seniorRoles, authorisedRoles, effectivePermissions, activatable, openable, clearedFrom};
+ghost use Rattle.table.specs.Answers.{coveredRoles, seniorRoles, authorisedRoles, effectivePermissions, activatable, openable, wordsEmpty, clearedFrom};
 
 // The roles and all their juniors.
 fn juniors_of(t: &[u64], roles: u64) -> u64
@@ -192,6 +192,26 @@ pub fn may_activate(t: &[u64], s: usize, r: usize) -> bool
     }
     let user = (owner - 1) as usize;
     bits::has(juniors_of(t, t[ASSIGNED + user]), r)
+}
+
+// Whether the n words of the table from the place at on are 0; no, where it has no such words.
+pub fn words_empty(t: &[u64], at: usize, n: usize) -> bool
+    ensures { λ b. ⌜ b ≡ wordsEmpty (now (t .entry)) at n ⌝ }
+{
+    if t.len() != WORDS {
+        return false;
+    }
+    if WORDS < at {
+        return false;
+    }
+    if WORDS - at < n {
+        return false;
+    }
+    let mut words = 0;
+    for i in 0..n {
+        words = bits::join(words, t[at + i]);
+    }
+    words == 0
 }
 
 // Writes the words into the list from the place at on, as far as it goes.

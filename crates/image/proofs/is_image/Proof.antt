@@ -3,7 +3,7 @@ use borrow.Author.Needs.{needs}
 use mathlib.Core.Path.{sym, _∙_}
 use Rattle.bits.proofs.Truth.{confirmed, refuted, true-and, false-and}
 use Rattle.table.proofs.Table.{is-table, not-table}
-use Rattle.sound.proofs.Sets.{sets-empty-are}
+use Rattle.separation.proofs.Sets.{sets-empty-are}
 use Rattle.image.specs.Test.{isImage, showsImage}
 use Rattle.image.proofs.is_image.Statement.{statement}
 use Rattle.image.proofs.is_image.Tie as tie

@@ -7,7 +7,7 @@ use Rattle.table.specs.Changes.{withDirect}
 use Rattle.table.specs.Reading.{state}
 use Rattle.table.specs.Table.{encode}
 use Rattle.masks.proofs.Refreshing.{all-refreshed}
-use Rattle.sound.proofs.Answers.{static-sets-shown}
+use Rattle.separation.proofs.Sets.{static-sets-shown}
 use Rattle.links.specs.Links.{mayLink, afterLink}
 use Rattle.links.proofs.Links.{not-itself, not-back, link-left, on-table, off-table, off-senior, off-junior, answer-no, answer-yes, put-back}
 use Rattle.links.proofs.link.Statement.{statement}

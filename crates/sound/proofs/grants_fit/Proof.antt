@@ -6,6 +6,7 @@ use mathlib.Core.Bool.{true}
 use Rattle.bits.proofs.Truth.{confirmed, refuted}
 use Rattle.bits.proofs.Below.{all-intro, all-fails, Passed, passed-none, passed-more, passed-all}
 use Rattle.table.specs.Reading.{state}
+use Rattle.table.proofs.Answers.{words-empty-elim}
 use Rattle.sound.specs.Tests.{grantFits, grantsFit}
 use Rattle.sound.proofs.Grants.{none-fits}
 use Rattle.sound.proofs.grants_fit.Statement.{statement}
@@ -36,7 +37,7 @@ grants-fit-spec =
     (λ c. search needs)
     (λ c. search needs)
     (λ c κs. search needs)
-    (λ c. sym (none-fits _ _ (sym (c .before .words-empty .ensures) ∙ c .if1 .taken)))
+    (λ c. sym (none-fits _ _ (words-empty-elim _ _ 64 (sym (c .before .words-empty .ensures) ∙ c .if1 .taken))))
     (λ c. passed-none)
     (λ c κs. search needs)
     returns-2

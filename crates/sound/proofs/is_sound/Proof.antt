@@ -1,7 +1,7 @@
 -- `is_sound` meets its contract: each loop has shown of every item that it passed that the item fits. Assumes nothing.
 use borrow.Author.Needs.{needs}
 use Prim.Native.Nat.{_-_}
-use mathlib.Core.Path.{_≡_}
+use mathlib.Core.Path.{_≡_, sym, _∙_}
 use mathlib.Core.Bool.{true}
 use Rattle.bits.specs.Words.{subset}
 use Rattle.bits.proofs.Truth.{confirmed, refuted}
@@ -9,6 +9,7 @@ use Rattle.bits.proofs.Below.{widen, Passed, passed-none, passed-more, passed-a
 use Rattle.table.specs.Reading.{state}
 use Rattle.table.proofs.Masks.{masks-elim, masks-intro}
 use Rattle.table.proofs.Sound.{sound-ruled, sound-masks}
+use Rattle.separation.proofs.Sets.{separated-are}
 use Rattle.sound.specs.Tests.{roleFits, grantsFit}
 use Rattle.sound.proofs.Items.{SessionFits, sound-role, sound-roles, sound-held, items-sound}
 use Rattle.sound.proofs.Grants.{sound-grants, each-grant}
@@ -102,7 +103,7 @@ returns-7 c =
     let roles = modes .before .before in
     let entry = roles .before .before .before in
     let all-modes = passed-all (modes .before .loop2 .inv) (modes .loop2-test .left) in
-    found-sound _ (entry .if1 .left) (c .is-separated .ensures)
+    found-sound _ (entry .if1 .left) (c .is-separated .ensures ∙ sym (separated-are _ (entry .if1 .left)))
     (items-sound _ (record {
       granted-word = λ x o. entry .before .shared-slice-known .given _ .fits;
       active-word = λ s. entry .before .shared-slice-known .given _ .fits;

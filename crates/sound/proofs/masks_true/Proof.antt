@@ -15,7 +15,9 @@ abbrev μ-loop : tie.MeasureT-loop
 μ-loop t masks i₀ i = 256 - i
 
 returns : tie.Need-returns Inv-loop μ-loop
-returns c = c .words-empty2 .ensures ∙ found-idle (c .before .before .before .before .args .t .now) (sym (c .before .before .words-empty .ensures) ∙ c .before .if1 .taken)
+returns c =
+    let start = c .before .before .before .before in
+    c .words-empty2 .ensures ∙ found-idle (start .args .t .now) (start .pre) (sym (c .before .before .words-empty .ensures) ∙ c .before .if1 .taken)
 
 returns-2 : tie.Need-returns-2 Inv-loop μ-loop
 returns-2 c =

@@ -1,0 +1,3 @@
+-- The crate's laws, in reading order.
+pub mod Sets
+pub mod Parts
