@@ -24,7 +24,7 @@ fn assign(t: &mut [u64], u: usize, r: usize) -> bool
     ensures { λ a. ⌜ Served (now (t .entry)) (now (t .exit)) a (assigns u r) ⌝ }
 {
     let more = bits::with(t[ASSIGNED + u], r);
-    if !sound::static_fit(t, more) {
+    if !separation::static_fit(t, more) {
         return false;
     }
     t[ASSIGNED + u] = more;
@@ -89,7 +89,7 @@ fn separate(t: &mut [u64], n: usize, roles: u64, bound: u64) -> bool
     requires { ⌜ Fit (now t) (separates n roles bound) ⌝ }
     ensures { λ a. ⌜ Served (now (t .entry)) (now (t .exit)) a (separates n roles bound) ⌝ }
 {
-    if !sound::pair_holds(t, n, roles, bound) {
+    if !separation::pair_holds(t, n, roles, bound) {
         return false;
     }
     t[SETS + 2 * n] = roles;
@@ -107,7 +107,7 @@ fn carries_bad_pair(code: u64, roles: u64, bound: u64) -> bool
     if 12 < code {
         return false;
     }
-    sound::is_bad_pair(roles, bound)
+    separation::is_bad_pair(roles, bound)
 }
 
 // Whether the pair that a grant or revoke names is a permission; the other requests name none.
@@ -135,7 +135,7 @@ fn perform(t: &mut [u64], code: u64, a: usize, b: usize, c: usize) -> bool
         9 => grant(t, a, b, c),
         10 => revoke(t, a, b, c),
         11 => separate(t, a, b as u64, c as u64),
-        12 => separate(t, sound::DYNAMIC + a, b as u64, c as u64),
+        12 => separate(t, separation::DYNAMIC + a, b as u64, c as u64),
         13 => links::link(t, a, b),
         _ => links::unlink(t, a, b),
     }

@@ -23,7 +23,8 @@ use Rattle.table.proofs.Masks.{mask-has}
 use Rattle.table.proofs.Sound.{sound-ruled, sound-masks}
 use Rattle.sound.specs.Answers.{isSound, sessionsFit}
 use Rattle.sound.proofs.Answers.{shown-sound}
-use Rattle.sound.proofs.Parts.{empty-fits, deassign-ruled, deassigned}
+use Rattle.separation.proofs.Parts.{empty-fits}
+use Rattle.sound.proofs.Parts.{deassign-ruled, deassigned}
 use Rattle.requests.specs.Request.{Ask, ask, decide}
 use Rattle.requests.proofs.Arguments.{within-intro}
 use Rattle.rbac.specs.Roles.{activates, limits, inRange, decode, known, moved}

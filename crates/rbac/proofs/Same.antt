@@ -21,7 +21,8 @@ use Rattle.table.proofs.Masks.{mask-has}
 use Rattle.table.proofs.Sound.{ruled-intro, ruled-is, sound-ruled, sound-masks, sets-roles-sound, masks-roles-sound, masks-separated}
 use Rattle.table.proofs.Encode.{encode-cong}
 use Rattle.table.proofs.Keeps.{same-separated, ended-separated}
-use Rattle.sound.proofs.Parts.{drop-ruled, deassign-ruled, revoke-ruled, active-fits, assigned-fits, pair-fits}
+use Rattle.separation.proofs.Parts.{active-fits, assigned-fits, pair-fits}
+use Rattle.sound.proofs.Parts.{drop-ruled, deassign-ruled, revoke-ruled}
 use Rattle.links.proofs.Links.{linkable-is, unlinkable-is}
 use Rattle.requests.specs.Request.{Ask, decide}
 use Rattle.rbac.specs.Roles.{Request, opens, closes, starts, ends, activates, drops, assigns, deassigns, grants, revokes, separates, links, unlinks, isCode, inRange, carriesBadPair, decode, known, rolesAllow, allowed, moved, changed}

@@ -7,7 +7,8 @@ use Rattle.table.specs.Masks.{refreshed, refreshedAt, refreshedPair}
 use Rattle.table.specs.Sound.{sound}
 use Rattle.table.specs.Table.{isTable, encode}
 use Rattle.table.specs.Reading.{state}
-use Rattle.sound.specs.Answers.{openingsFit, sessionsFit, pairFits, setsFit, pairHolds}
+use Rattle.separation.specs.Answers.{setsFit, pairHolds}
+use Rattle.sound.specs.Answers.{openingsFit, sessionsFit, pairFits}
 use Rattle.links.specs.Links.{linkable, unlinkable}
 use Rattle.requests.specs.Request.{Ask, Outcome, refuse, decide}
 use Rattle.rbac.specs.Roles.{Request, opens, closes, starts, ends, activates, drops, assigns, deassigns, grants, revokes, separates, links, unlinks, isCode, inRange, carriesBadPair, decode, known, allowed, moved, changed}

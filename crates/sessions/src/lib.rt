@@ -53,7 +53,7 @@ fn start(t: &mut [u64], s: usize, u: usize, roles: u64) -> bool
     if !bits::subset(roles, table::authorised_roles(t, u)) {
         return false;
     }
-    if !sound::dynamic_fit(t, roles) {
+    if !separation::dynamic_fit(t, roles) {
         return false;
     }
     t[OWNER + s] = u as u64 + 1;
@@ -97,7 +97,7 @@ fn activate(t: &mut [u64], s: usize, r: usize) -> bool
     }
     let old = t[ACTIVE + s];
     let more = bits::with(old, r);
-    if !sound::dynamic_fit(t, more) {
+    if !separation::dynamic_fit(t, more) {
         return false;
     }
     t[ACTIVE + s] = more;

@@ -6,7 +6,7 @@ use lib.ListN.{set}
 use borrow.Author.Tests.{not-true, not-false}
 use Rattle.table.specs.Reading.{assignedAt, state}
 use Rattle.table.proofs.Encode.{encode-state, write-assigned}
-use Rattle.sound.proofs.Sets.{static-told}
+use Rattle.separation.proofs.Sets.{static-told}
 use Rattle.rbac.specs.Roles.{moved}
 use Rattle.rbac.specs.Guard.{allowedSound, changedSound}
 use Rattle.rbac.proofs.Serving.{serve-yes, serve-no}

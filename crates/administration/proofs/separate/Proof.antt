@@ -7,7 +7,7 @@ use lib.ListN.{length-set}
 use Rattle.bits.proofs.Truth.{confirmed, refuted}
 use Rattle.table.specs.Reading.{state}
 use Rattle.table.proofs.Encode.{encode-state, write-sets}
-use Rattle.sound.proofs.Sets.{pair-holds-are}
+use Rattle.separation.proofs.Sets.{pair-holds-are}
 use Rattle.rbac.specs.Roles.{moved}
 use Rattle.rbac.specs.Guard.{allowedSound, changedSound}
 use Rattle.rbac.proofs.Serving.{serve-yes, serve-no}

@@ -10,7 +10,7 @@ use Rattle.table.specs.Reading.{activeAt, state}
 use Rattle.table.specs.Table.{encode}
 use Rattle.table.proofs.Encode.{encode-state, write-active}
 use Rattle.table.proofs.Answers.{activatable-known}
-use Rattle.sound.proofs.Sets.{dynamic-told}
+use Rattle.separation.proofs.Sets.{dynamic-told}
 use Rattle.masks.proofs.Refreshing.{session-shown}
 use Rattle.rbac.specs.Roles.{activates, moved}
 use Rattle.rbac.specs.Guard.{allowedSound, changedSound}

@@ -10,7 +10,7 @@ use Rattle.bits.proofs.Truth.{confirmed, refuted, and-intro, false-and, and-fal
 use Rattle.table.specs.Reading.{ownerAt, state}
 use Rattle.table.proofs.Answers.{all-authorised}
 use Rattle.table.proofs.Encode.{encode-state, write-owner, write-active}
-use Rattle.sound.proofs.Sets.{dynamic-told}
+use Rattle.separation.proofs.Sets.{dynamic-told}
 use Rattle.masks.proofs.Refreshing.{session-shown}
 use Rattle.rbac.specs.Roles.{moved}
 use Rattle.rbac.specs.Guard.{allowedSound, changedSound}
