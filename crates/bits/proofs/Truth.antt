@@ -136,6 +136,13 @@ pub if-false : {A : Type 0} {b : Bool} (x y : A) → b ≡ false → (if b then 
 unfolding if_then_else_
 if-false x y p = rw (p, if_then_else_)
 
+-- what holds of a choice, by its test
+pub by-if : {A : Type 0} (P : A → Type 0) (b : Bool) {x y : A} → (b ≡ true → P x) → (b ≡ false → P y) → P (if b then x else y)
+by-if P b {x} {y} f g = by-truth b (λ p. rw (if-true x y p) (f p)) (λ p. rw (if-false x y p) (g p))
+
+pub if-same : {A : Type 0} (b : Bool) (x : A) → (if b then x else x) ≡ x
+if-same b x = by-truth b (if-true x x) (if-false x x)
+
 -- past a test that does not refuse, and stopped by one that does
 pub past : {A : Type 0} {b : Bool} (x y : A) → b ≡ true → (if not b then x else y) ≡ y
 past x y p = if-false x y (ap not p)
