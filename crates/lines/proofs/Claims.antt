@@ -7,7 +7,7 @@ use native.Mathlib.Omega.{arith}
 use lib.Dec.{eqb}
 use lib.ListN.{length}
 use borrow.Author.Tests.{not-true}
-use Rattle.bits.proofs.Truth.{and-intro, and-left, and-right, if-true, if-false}
+use Rattle.bits.proofs.Truth.{and-intro, and-left, and-right}
 use Rattle.lines.specs.Bytes.{newline, every}
 use Rattle.lines.specs.Reader.{finished, stepOf, steps, fed}
 use Rattle.lines.specs.Claims.{LineRead, inOneLine, PieceFed, handed, flat, PiecesFed, FreshRead}
@@ -17,6 +17,7 @@ use Rattle.lines.specs.declared.Fed.{Fed}
 use Rattle.lines.proofs.Resume.{steps-append, finished-joined}
 use Rattle.lines.proofs.Short.{line-joined}
 use Rattle.lines.proofs.Fresh.{fresh-empty}
+use Rattle.lines.proofs.Going.{fed-none, fed-line, fed-byte}
 
 pub line-read : LineRead
 line-read l = finished-joined l ∙ line-joined l
@@ -25,16 +26,15 @@ line-read l = finished-joined l ∙ line-joined l
 
 -- bytes before others: those are left to a reader that has read these
 fed-append : (s : Reader) (p l : List ℕ) (at : ℕ) → inOneLine p ≡ true → fed s (p ++ l) at ≡ fed (steps s p) l (at + length p)
-unfolding fed steps every
+unfolding steps every
 fed-append s [] l at h = ap (λ (k : ℕ). fed s l k) (omega arith)
 fed-append s (b ∷ p) l at h =
-    if-false _ _ (not-true (eqb b 10) (and-left (not (eqb b 10)) _ h))
+    fed-byte s b _ at (not-true (eqb b 10) (and-left (not (eqb b 10)) _ h))
     ∙ fed-append (stepOf s b) p l (at + 1) (and-right (not (eqb b 10)) _ h)
     ∙ ap (λ (k : ℕ). fed (steps (stepOf s b) p) l k) (omega arith)
 
 pub piece-fed : PieceFed
-unfolding fed
-piece-fed s p at h = ap (λ (l : List ℕ). fed s l at) (sym (append-nil p)) ∙ fed-append s p [] at h
+piece-fed s p at h = ap (λ (l : List ℕ). fed s l at) (sym (append-nil p)) ∙ fed-append s p [] at h ∙ fed-none (steps s p) _
 
 every-left : (f : ℕ → Bool) (p q : List ℕ) → every f (p ++ q) ≡ true → every f p ≡ true
 unfolding every
@@ -55,10 +55,9 @@ handed-steps s (p ∷ ps) h =
     ∙ sym (steps-append s p (flat ps))
 
 pub pieces-fed : PiecesFed
-unfolding fed
 pieces-fed ps p rest at h =
     let before = handed-steps (Letters 0) ps (every-left _ (flat ps) p h) in
-    let last = fed-append (handed (Letters 0) ps) p (newline ∷ rest) at (every-right _ (flat ps) p h) ∙ if-true _ _ refl in
+    let last = fed-append (handed (Letters 0) ps) p (newline ∷ rest) at (every-right _ (flat ps) p h) ∙ fed-line _ newline rest _ refl in
     record {
       whole = ap (λ (f : Fed). f .whole) last;
       next = ap (λ (f : Fed). f .next) last;

@@ -1,14 +1,15 @@
 -- Laws of a reader that goes on through a block, and of how large what it reads may grow. Assumes nothing.
 use Prim.Native.Nat.{ℕ, _+_, _-_, _*_, _^_, _<_, _≤_}
 use mathlib.Core.Path.{_≡_, refl, sym, ap, _∙_}
-use mathlib.Core.Bool.{true}
-use mathlib.Core.List.{List}
+use mathlib.Core.Bool.{true, false}
+use mathlib.Core.List.{List, [], _∷_}
 use native.Mathlib.Omega.{arith}
 use native.Mathlib.Nat.{pow-suc, pow-le-pow-right, mul-le-mul-right, lt-of-lt-of-le}
 use native.Mathlib.Numerals.{add-one}
+use lib.Dec.{eqb}
 use lib.ListN.{length, getD, drop}
 use lib.Seq.{drop-cons}
-use borrow.Author.Tests.{ne-eqb}
+use borrow.Author.Tests.{eq-eqb, ne-eqb}
 use Rattle.bits.proofs.Truth.{if-true, if-false}
 use Rattle.lines.specs.Line.{digit}
 use Rattle.lines.specs.Reader.{letter, wordOf, begun, pushed, stepOf, fed, GoesOn, DigitsGoOn}
@@ -16,7 +17,7 @@ use Rattle.lines.specs.declared.Word.{Word}
 use Rattle.lines.specs.declared.Fields.{Fields}
 use Rattle.lines.specs.declared.Reader.{Reader}
 use Rattle.lines.specs.declared.Reader.the-variants.{Letters, Tab, Digits}
-use Rattle.lines.proofs.Stepping.{letter-least, digit-least, letter-step, field-step, digit-step}
+use Rattle.lines.proofs.Stepping.{letter-least, digit-least, word-tab, digits-tab, letter-step, field-step, digit-step}
 
 -- ---- a number of k digits at most
 
@@ -30,6 +31,21 @@ grown base k m v d e h small =
 pub below : (base k m v : ℕ) → 0 < base → k ≤ m → v < base ^ k → v < base ^ m
 below base k m v some e h = lt-of-lt-of-le h (pow-le-pow-right some e)
 
+-- ---- a byte more, or none
+
+module _ (s : Reader) where
+  pub fed-none : (at : ℕ) → fed s [] at ≡ record { whole = false; reader = s; next = at }
+  unfolding fed
+  fed-none at = refl
+
+  pub fed-line : (b : ℕ) (l : List ℕ) (at : ℕ) → eqb b 10 ≡ true → fed s (b ∷ l) at ≡ record { whole = true; reader = s; next = at + 1 }
+  unfolding fed
+  fed-line b l at e = if-true _ _ e
+
+  pub fed-byte : (b : ℕ) (l : List ℕ) (at : ℕ) → eqb b 10 ≡ false → fed s (b ∷ l) at ≡ fed (stepOf s b) l (at + 1)
+  unfolding fed
+  fed-byte b l at e = if-false _ _ e
+
 -- ---- a byte of a block
 
 -- readers that are the same
@@ -41,6 +57,10 @@ module _ (l : List ℕ) (at : ℕ) (b : ℕ) (inside : at < length l) (here : ge
   pub byte-on : (s : Reader) → (b ≡ 10 → ⊥) → GoesOn l s at (stepOf s b) (at + 1)
   unfolding fed
   byte-on s n = rw (drop-cons l at 0 inside, here, add-one at) (if-false _ _ (ne-eqb b 10 n))
+
+  -- the newline
+  pub line-on : (s : Reader) → b ≡ 10 → fed s (drop at l) at ≡ record { whole = true; reader = s; next = at + 1 }
+  line-on s e = rw (drop-cons l at 0 inside, here) (fed-line s b _ at (eq-eqb b 10 e))
 
   -- a letter of the word
   pub letter-on : (x : ℕ) → letter b ≡ true → x * 256 + b < 2 ^ 64 → GoesOn l (Letters x) at (Letters (x * 256 + b)) (at + 1)
@@ -69,10 +89,8 @@ module _ (l : List ℕ) (at : ℕ) (b : ℕ) (inside : at < length l) (here : ge
 module _ (l : List ℕ) (at : ℕ) (inside : at < length l) (here : getD l at 0 ≡ 9) where
   -- behind the word
   pub word-over : (x : ℕ) → GoesOn l (Letters x) at (begun (wordOf x)) (at + 1)
-  unfolding stepOf
-  word-over x = byte-on l at 9 inside here (Letters x) (λ e. omega arith) ∙ same-on l (at + 1) (if-true _ _ refl)
+  word-over x = byte-on l at 9 inside here (Letters x) (λ e. omega arith) ∙ same-on l (at + 1) (word-tab x)
 
   -- behind a field
   pub field-over : (w : Word) (fs : Fields) (v : ℕ) → GoesOn l (Digits w fs v) at (pushed w fs v) (at + 1)
-  unfolding stepOf
-  field-over w fs v = byte-on l at 9 inside here (Digits w fs v) (λ e. omega arith) ∙ same-on l (at + 1) (if-true _ _ refl)
+  field-over w fs v = byte-on l at 9 inside here (Digits w fs v) (λ e. omega arith) ∙ same-on l (at + 1) (digits-tab w fs v)

@@ -1,9 +1,10 @@
 -- The crate's laws, in reading order.
+pub mod Stepping
 pub mod Values
 pub mod Words
 pub mod Resume
+pub mod Shown
 pub mod Short
 pub mod Fresh
-pub mod Stepping
 pub mod Going
 pub mod Claims

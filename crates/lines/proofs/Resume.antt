@@ -1,13 +1,13 @@
 -- The reader's answer at the end of a line is what the line's definition says. Assumes nothing.
 use Prim.Native.Nat.{ℕ, _+_, _-_, _*_, _^_}
 use mathlib.Core.Path.{_≡_, refl, sym, ap, _∙_}
-use mathlib.Core.Bool.{Bool, true, false}
+use mathlib.Core.Bool.{Bool, false}
 use mathlib.Core.List.{List, [], _∷_, _++_}
 use mathlib.Core.Option.{Option, some, none}
 use lib.Dec.{eqb, ltb}
 use borrow.Author.Tests.{eqb-true}
 use Rattle.bits.specs.Words.{_and_, if_then_else_}
-use Rattle.lines.specs.Line.{first, others, spelled, digit, plain, number, behind, push, fields, joined}
+use Rattle.lines.specs.Line.{first, others, spelled, digit, number, behind, push, fields, joined}
 use Rattle.lines.specs.Reader.{letter, wordOf, begun, tabbed, pushed, stepOf, ended, finished, steps}
 use Rattle.lines.specs.declared.Word.{Word}
 use Rattle.lines.specs.declared.Spelled.{Spelled}
@@ -19,8 +19,9 @@ use Rattle.lines.specs.declared.Line.the-variants.{Refused}
 use Rattle.lines.specs.declared.Reader.{Reader}
 use Rattle.lines.specs.declared.Reader.the-variants.{Letters, Tab, Digits, Broken}
 use Rattle.lines.proofs.Words.{lettersFrom, letters-spelled}
-use Rattle.bits.proofs.Truth.{clash}
-use Rattle.lines.proofs.Values.{along, digitsFrom, number-along}
+use Rattle.bits.proofs.Truth.{by-truth, if-true, if-false}
+use Rattle.lines.proofs.Stepping.{word-tab, field-tab, digits-tab}
+use Rattle.lines.proofs.Values.{along, digitsFrom, number-none, number-along}
 
 -- ---- a line in pieces
 
@@ -29,6 +30,14 @@ pub steps-append : (s : Reader) (l m : List ℕ) → steps s (l ++ m) ≡ steps 
 unfolding steps
 steps-append s [] m = refl
 steps-append s (b ∷ l) m = steps-append (stepOf s b) l m
+
+pub steps-none : (s : Reader) → steps s [] ≡ s
+unfolding steps
+steps-none s = refl
+
+pub steps-more : (s : Reader) (l : List ℕ) (b : ℕ) → steps s (l ++ (b ∷ [])) ≡ stepOf (steps s l) b
+unfolding steps
+steps-more s l b = steps-append s l (b ∷ [])
 
 -- ---- what a reader makes of what is left of the piece it stands in, and of the pieces behind that
 
@@ -59,37 +68,23 @@ after-field w (some fs) p ps = refl
 after-field w none p ps = refused w (p ∷ ps)
 
 resume-tab : (s : Reader) (p : List ℕ) (ps : List (List ℕ)) → resume s [] (p ∷ ps) ≡ resume (stepOf s 9) p ps
-unfolding resume stepOf along digitsFrom pushed push number plain _and_ if_then_else_
-resume-tab (Letters x) p ps = after-word (wordOf x) p ps
-resume-tab (Tab w fs) p ps = refused w (p ∷ ps)
-resume-tab (Digits w fs v) p ps = after-field w (behind fs v) p ps
+unfolding resume stepOf along digitsFrom pushed push
+resume-tab (Letters x) p ps = rw (word-tab x) (after-word (wordOf x) p ps)
+resume-tab (Tab w fs) p ps = rw (field-tab w fs, number-none) (refused w (p ∷ ps))
+resume-tab (Digits w fs v) p ps = rw (digits-tab w fs v) (after-field w (behind fs v) p ps)
 resume-tab Broken p ps = refl
 
 -- another byte
-letters-byte : (tab good : Bool) (s : Reader) (x : ℕ) (p : List ℕ) (ps : List (List ℕ)) → tab ≡ false
-    → joined (if_then_else_ good (lettersFrom x p) Nothing) (fields ps (some Without)) ≡ resume (if_then_else_ tab s (if_then_else_ good (Letters x) Broken)) p ps
-unfolding resume joined if_then_else_
-letters-byte true good s x p ps h = clash {b = true} refl h
-letters-byte false true s x p ps h = refl
-letters-byte false false s x p ps h = refl
-
 field-byte : (good : Bool) (w : Word) (fs : Fields) (v : ℕ) (p : List ℕ) (ps : List (List ℕ))
-    → joined (As w) (fields ps (push (some fs) (if_then_else_ good (digitsFrom v p) none))) ≡ resume (if_then_else_ good (Digits w fs v) Broken) p ps
-unfolding resume push if_then_else_
-field-byte true w fs v p ps = refl
-field-byte false w fs v p ps = refused w ps
-
-digits-byte : (tab good : Bool) (s : Reader) (w : Word) (fs : Fields) (v : ℕ) (p : List ℕ) (ps : List (List ℕ)) → tab ≡ false
-    → joined (As w) (fields ps (push (some fs) (if_then_else_ good (digitsFrom v p) none))) ≡ resume (if_then_else_ tab s (if_then_else_ good (Digits w fs v) Broken)) p ps
-unfolding if_then_else_
-digits-byte true good s w fs v p ps h = clash {b = true} refl h
-digits-byte false good s w fs v p ps h = field-byte good w fs v p ps
+    → joined (As w) (fields ps (push (some fs) (if good then digitsFrom v p else none))) ≡ resume (if good then Digits w fs v else Broken) p ps
+unfolding resume push
+field-byte good w fs v p ps = by-truth good (λ g. simp if-true) (λ g. simp if-false (refused w ps))
 
 resume-byte : (s : Reader) (b : ℕ) (p : List ℕ) (ps : List (List ℕ)) → eqb b 9 ≡ false → resume s (b ∷ p) ps ≡ resume (stepOf s b) p ps
-unfolding resume stepOf along digitsFrom push if_then_else_
-resume-byte (Letters x) b p ps h = letters-byte (eqb b 9) (letter b and ltb (x * 256 + b) (2 ^ 64)) (begun (wordOf x)) (x * 256 + b) p ps h
+unfolding resume joined stepOf along digitsFrom
+resume-byte (Letters x) b p ps h = rw (if-false _ _ h) (by-truth (letter b and ltb (x * 256 + b) (2 ^ 64)) (λ g. simp if-true) (λ g. simp if-false))
 resume-byte (Tab w fs) b p ps h = rw (number-along b p) (field-byte (digit b) w fs (b - 48) p ps)
-resume-byte (Digits w fs v) b p ps h = digits-byte (eqb b 9) (ltb 0 v and (digit b and ltb (v * 10 + (b - 48)) (2 ^ 64))) (pushed w fs v) w fs (v * 10 + (b - 48)) p ps h
+resume-byte (Digits w fs v) b p ps h = rw (if-false _ _ h) (field-byte _ w fs (v * 10 + (b - 48)) p ps)
 resume-byte Broken b p ps h = refl
 
 -- the newline
@@ -104,21 +99,19 @@ field-ends w (some fs) = refl
 field-ends w none = refl
 
 resume-end : (s : Reader) → finished s ≡ resume s [] []
-unfolding finished stepOf resume along digitsFrom fields push number plain _and_ pushed tabbed ended if_then_else_
-resume-end (Letters x) = word-ends (wordOf x)
-resume-end (Tab w fs) = field-ends w none
-resume-end (Digits w fs v) = field-ends w (behind fs v)
+unfolding finished stepOf resume along digitsFrom fields push pushed tabbed ended
+resume-end (Letters x) = rw (word-tab x) (word-ends (wordOf x))
+resume-end (Tab w fs) = rw (field-tab w fs, number-none) (field-ends w none)
+resume-end (Digits w fs v) = rw (digits-tab w fs v) (field-ends w (behind fs v))
 resume-end Broken = refl
 
 finished-steps : (s : Reader) (l : List ℕ) → finished (steps s l) ≡ resume s (first l) (others l)
-unfolding steps first others if_then_else_
+unfolding steps first others
 finished-steps s [] = resume-end s
-finished-steps s (b ∷ l) = go (eqb b 9) refl (finished-steps (stepOf s b) l)
-  where
-    go : (t : Bool) → eqb b 9 ≡ t → finished (steps (stepOf s b) l) ≡ resume (stepOf s b) (first l) (others l)
-        → finished (steps (stepOf s b) l) ≡ resume s (if_then_else_ t [] (b ∷ first l)) (if_then_else_ t (first l ∷ others l) (others l))
-    go true e ih = ih ∙ ap (λ (a : ℕ). resume (stepOf s a) (first l) (others l)) (eqb-true b 9 e) ∙ sym (resume-tab s (first l) (others l))
-    go false e ih = ih ∙ sym (resume-byte s b (first l) (others l) e)
+finished-steps s (b ∷ l) =
+    finished-steps (stepOf s b) l ∙ by-truth (eqb b 9)
+    (λ e. simp if-true (ap (λ (a : ℕ). resume (stepOf s a) (first l) (others l)) (eqb-true b 9 e) ∙ sym (resume-tab s (first l) (others l))))
+    (λ e. simp if-false (sym (resume-byte s b (first l) (others l) e)))
 
 -- the line that was read, but for the limit of 128 bytes
 pub finished-joined : (l : List ℕ) → finished (steps (Letters 0) l) ≡ joined (spelled (first l)) (fields (others l) (some Without))

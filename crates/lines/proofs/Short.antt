@@ -1,16 +1,16 @@
 -- A line that is read is short: 8 letters and three times a tab and 20 digits at most, so the limit of 128 bytes never decides. Assumes nothing.
 use Prim.Native.Nat.{ℕ, suc, _+_, _-_, _*_, _^_, _<_, _≤_}
 use mathlib.Core.Path.{_≡_, refl, sym, ap, _∙_}
-use mathlib.Core.Bool.{Bool, true, false}
+use mathlib.Core.Bool.{Bool, true}
 use mathlib.Core.List.{List, [], _∷_}
-use mathlib.Core.Option.{Option, some, none}
+use mathlib.Core.Option.{Option, some, none, Option·none-ne-some}
 use native.Mathlib.Omega.{arith}
 use native.Mathlib.Nat.{pow-succ', pow-le-pow-right, mul-le-mul-right, mul-assoc}
 use lib.Dec.{eqb, leb, ltb, lit<}
 use lib.ListN.{length}
 use borrow.Author.Tests.{eqb-false, ltb-true, leb-true, leb-false, ltb-false}
-use Rattle.bits.specs.Words.{_and_, if_then_else_}
-use Rattle.lines.specs.Bytes.{every, empty, same}
+use Rattle.bits.specs.Words.{_and_}
+use Rattle.lines.specs.Bytes.{same}
 use Rattle.lines.specs.Line.{Entry, words, first, others, find, spelled, digit, worth, plain, number, behind, push, fields, joined, line}
 use Rattle.lines.specs.declared.Word.{Word}
 use Rattle.lines.specs.declared.Spelled.{Spelled}
@@ -18,7 +18,9 @@ use Rattle.lines.specs.declared.Spelled.the-variants.{As, Nothing}
 use Rattle.lines.specs.declared.Fields.{Fields}
 use Rattle.lines.specs.declared.Fields.the-variants.{Without, One, Two, Three}
 use Rattle.lines.specs.declared.Line.the-variants.{Refused}
-use Rattle.bits.proofs.Truth.{clash, and-left, and-right}
+use Rattle.bits.proofs.Truth.{by-truth, and-left, and-right, if-true, if-false}
+use Rattle.lines.proofs.Stepping.{digit-least}
+use Rattle.lines.proofs.Shown.{empty-is}
 use Rattle.lines.proofs.Words.{same-true}
 use Rattle.lines.proofs.Resume.{fields-none}
 
@@ -30,14 +32,11 @@ span [] = 0
 span (p ∷ ps) = suc (length p) + span ps
 
 length-pieces : (l : List ℕ) → length l ≡ length (first l) + span (others l)
-unfolding first others span if_then_else_
+unfolding first others span
 length-pieces [] = refl
-length-pieces (b ∷ l) = go (eqb b 9) (length-pieces l)
-  where
-    go : (t : Bool) → length l ≡ length (first l) + span (others l)
-        → suc (length l) ≡ length (if_then_else_ t [] (b ∷ first l)) + span (if_then_else_ t (first l ∷ others l) (others l))
-    go true ih = omega arith
-    go false ih = omega arith
+length-pieces (b ∷ l) =
+    let ih = length-pieces l in
+    by-truth (eqb b 9) (λ e. simp if-true (omega arith)) (λ e. simp if-false (omega arith))
 
 -- ---- a number has 20 digits at most
 
@@ -52,40 +51,31 @@ worth-long v (b ∷ l) =
 
 -- what starts with another digit than 0 has 20 at most
 digits-short : (v : ℕ) (l : List ℕ) → 1 ≤ v → worth v l < 2 ^ 64 → length l < 20
-digits-short v l h k = go (ltb (length l) 20) refl
-  where
-    go : (t : Bool) → ltb (length l) 20 ≡ t → length l < 20
-    go true e = ltb-true _ _ e
-    go false e =
-        let big : 10 ^ 20 ≤ 10 ^ length l = pow-le-pow-right (lit< tt) (ltb-false _ _ e) in
-        let once : 1 * 10 ^ length l ≤ v * 10 ^ length l = mul-le-mul-right (10 ^ length l) h in
-        let all = worth-long v l in
-        absurd (omega arith)
-
-empty-length : (l : List ℕ) → empty l ≡ true → length l ≡ 0
-unfolding empty
-empty-length [] h = refl
-empty-length (b ∷ l) h = clash {b = true} refl (sym h)
+digits-short v l h k =
+    by-truth (ltb (length l) 20) (ltb-true _ _)
+    (λ e.
+    let big : 10 ^ 20 ≤ 10 ^ length l = pow-le-pow-right (lit< tt) (ltb-false _ _ e) in
+    let once : 1 * 10 ^ length l ≤ v * 10 ^ length l = mul-le-mul-right (10 ^ length l) h in
+    let all = worth-long v l in
+    absurd (omega arith))
 
 plain-short : (p : List ℕ) → plain p ≡ true → worth 0 p < 2 ^ 64 → length p ≤ 20
-unfolding plain worth if_then_else_
+unfolding plain worth
 plain-short [] h k = omega arith
-plain-short (b ∷ l) h k = go (eqb b 48) refl (and-right (digit b) _ h)
-  where
-    go : (t : Bool) → eqb b 48 ≡ t → if_then_else_ t (empty l) (every digit l) ≡ true → suc (length l) ≤ 20
-    go true e f = let z = empty-length l f in omega arith
-    go false e f =
-        let least : 48 ≤ b = leb-true 48 b (and-left _ _ (and-left _ _ h)) in
-        let other : b ≡ 48 → ⊥ = eqb-false b 48 e in
-        digits-short (0 * 10 + (b - 48)) l (omega arith) k
+plain-short (b ∷ l) h k =
+    by-truth (eqb b 48)
+    (λ e. let z = ap length (empty-is l (sym (if-true _ _ e) ∙ and-right (digit b) _ h)) in omega arith)
+    (λ e.
+    let least = digit-least b (and-left _ _ h) in
+    let other : b ≡ 48 → ⊥ = eqb-false b 48 e in
+    digits-short (0 * 10 + (b - 48)) l (omega arith) k)
 
 number-short : (p : List ℕ) (n : ℕ) → number p ≡ some n → length p ≤ 20
-unfolding number if_then_else_
-number-short p n h = go (plain p and ltb (worth 0 p) (2 ^ 64)) refl h
-  where
-    go : (t : Bool) → plain p and ltb (worth 0 p) (2 ^ 64) ≡ t → if_then_else_ t (some (worth 0 p)) none ≡ some n → length p ≤ 20
-    go true e k = plain-short p (and-left _ _ e) (ltb-true _ _ (and-right (plain p) _ e))
-    go false e k = let z : _≡_ {A = ℕ} 0 1 = cc in absurd (omega arith)
+unfolding number
+number-short p n h =
+    by-truth (plain p and ltb (worth 0 p) (2 ^ 64))
+    (λ e. plain-short p (and-left _ _ e) (ltb-true _ _ (and-right (plain p) _ e)))
+    (λ e. absurd (Option·none-ne-some n (sym (if-false _ _ e) ∙ h)))
 
 -- ---- a word has 8 letters at most
 
@@ -94,13 +84,12 @@ all-short [] = true
 all-short (e ∷ es) = leb (length (e .letters)) 8 and all-short es
 
 find-short : (es : List Entry) (p : List ℕ) (w : Word) → all-short es ≡ true → find es p ≡ As w → length p ≤ 8
-unfolding find all-short if_then_else_
+unfolding find all-short
 find-short [] p w a h = let z : _≡_ {A = ℕ} 0 1 = cc in absurd (omega arith)
-find-short (e ∷ es) p w a h = go (same p (e .letters)) refl h (λ k. find-short es p w (and-right (leb (length (e .letters)) 8) _ a) k)
-  where
-    go : (t : Bool) → same p (e .letters) ≡ t → if_then_else_ t (As (e .word)) (find es p) ≡ As w → (find es p ≡ As w → length p ≤ 8) → length p ≤ 8
-    go true s k ih = rw (same-true p (e .letters) s) (leb-true _ _ (and-left _ _ a))
-    go false s k ih = ih k
+find-short (e ∷ es) p w a h =
+    by-truth (same p (e .letters))
+    (λ s. rw (same-true p (e .letters) s) (leb-true _ _ (and-left _ _ a)))
+    (λ s. find-short es p w (and-right (leb (length (e .letters)) 8) _ a) (sym (if-false _ _ s) ∙ h))
 
 -- ---- a line
 
@@ -112,7 +101,7 @@ room (Two a b) = 21
 room (Three a b c) = 0
 
 not-none : {A : Type 0} (ps : List (List ℕ)) (fs : Fields) → fields ps none ≡ some fs → A
-not-none ps fs h = let e = fields-none ps in let z : _≡_ {A = ℕ} 0 1 = cc in absurd (omega arith)
+not-none ps fs h = absurd (Option·none-ne-some fs (sym (fields-none ps) ∙ h))
 
 span-more : (p : List ℕ) (ps : List (List ℕ)) (gs fs : Fields) (n : ℕ) → length p ≤ 20 → fields ps (behind gs n) ≡ some fs
     → ((hs : Fields) → fields ps (some hs) ≡ some fs → span ps ≤ room hs) → suc (length p) + span ps ≤ room gs
@@ -133,8 +122,8 @@ fields-span (p ∷ ps) gs fs h = go (number p) refl h (λ hs k. fields-span ps h
     go (some n) e k ih = span-more p ps gs fs n (number-short p n e) k ih
 
 pub line-joined : (l : List ℕ) → joined (spelled (first l)) (fields (others l) (some Without)) ≡ line l
-unfolding line spelled joined all-short _and_ room if_then_else_
-line-joined l = go (leb (length l) 128) refl
+unfolding line spelled joined all-short _and_ room
+line-joined l = by-truth (leb (length l) 128) (λ e. sym (if-true _ _ e)) (λ e. long _ _ (leb-false _ _ e) refl refl ∙ sym (if-false _ _ e))
   where
     long : (o : Spelled) (f : Option Fields) → 128 < length l → find words (first l) ≡ o → fields (others l) (some Without) ≡ f → joined o f ≡ Refused
     long Nothing f h a b = refl
@@ -144,8 +133,3 @@ line-joined l = go (leb (length l) 128) refl
         let numbers : span (others l) ≤ 63 = fields-span (others l) Without fs b in
         let whole = length-pieces l in
         absurd (omega arith)
-
-    go : (t : Bool) → leb (length l) 128 ≡ t
-        → joined (find words (first l)) (fields (others l) (some Without)) ≡ if_then_else_ t (joined (find words (first l)) (fields (others l) (some Without))) Refused
-    go true e = refl
-    go false e = long _ _ (leb-false _ _ e) refl refl

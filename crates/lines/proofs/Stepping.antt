@@ -1,14 +1,13 @@
 -- Laws of a step of the reader, one for each way that it may go. Assumes nothing.
 use Prim.Native.Nat.{ℕ, _+_, _-_, _*_, _^_, _<_, _≤_}
-use mathlib.Core.Path.{_≡_, _∙_}
+use mathlib.Core.Path.{_≡_, refl, _∙_}
 use mathlib.Core.Bool.{true, false}
 use native.Mathlib.Omega.{arith}
 use lib.Dec.{leb, ltb}
 use borrow.Author.Tests.{ne-eqb, lt-ltb, le-ltb, leb-true}
-use Rattle.bits.specs.Words.{_and_, if_then_else_}
 use Rattle.bits.proofs.Truth.{if-true, if-false, and-left, and-right, and-intro, and-false, false-and}
 use Rattle.lines.specs.Line.{digit}
-use Rattle.lines.specs.Reader.{letter, stepOf}
+use Rattle.lines.specs.Reader.{letter, wordOf, begun, pushed, stepOf}
 use Rattle.lines.specs.declared.Word.{Word}
 use Rattle.lines.specs.declared.Fields.{Fields}
 use Rattle.lines.specs.declared.Reader.the-variants.{Letters, Tab, Digits, Broken}
@@ -29,6 +28,10 @@ digit-most b h = leb-true b 57 (and-right (leb 48 b) _ h)
 
 -- ---- in the word
 
+pub word-tab : (x : ℕ) → stepOf (Letters x) 9 ≡ begun (wordOf x)
+unfolding stepOf
+word-tab x = if-true _ _ refl
+
 module _ (x b : ℕ) where
   pub letter-step : letter b ≡ true → x * 256 + b < 2 ^ 64 → stepOf (Letters x) b ≡ Letters (x * 256 + b)
   unfolding stepOf
@@ -45,6 +48,15 @@ module _ (x b : ℕ) where
   letter-over n over = if-false _ _ (ne-eqb b 9 n) ∙ if-false _ _ (and-false (letter b) (le-ltb _ _ over))
 
 -- ---- in a field
+
+module _ (w : Word) (fs : Fields) where
+  pub field-tab : stepOf (Tab w fs) 9 ≡ Broken
+  unfolding stepOf
+  field-tab = if-false _ _ (false-and _ refl)
+
+  pub digits-tab : (v : ℕ) → stepOf (Digits w fs v) 9 ≡ pushed w fs v
+  unfolding stepOf
+  digits-tab v = if-true _ _ refl
 
 module _ (w : Word) (fs : Fields) (b : ℕ) where
   pub field-step : digit b ≡ true → stepOf (Tab w fs) b ≡ Digits w fs (b - 48)

@@ -5,13 +5,14 @@ use mathlib.Core.Bool.{Bool, true, false}
 use mathlib.Core.List.{List, [], _∷_}
 use mathlib.Core.Option.{Option, some, none}
 use native.Mathlib.Omega.{arith}
-use native.Mathlib.Nat.{le-trans, zero-add}
-use lib.Dec.{eqb, leb, ltb}
-use borrow.Author.Tests.{eqb-true, eqb-false, ltb-true, ltb-false, lt-ltb, le-ltb, leb-true}
+use native.Mathlib.Nat.{le-trans, lt-of-le-of-lt, zero-add}
+use lib.Dec.{eqb, ltb}
+use borrow.Author.Tests.{eqb-true, eqb-false, ltb-true, lt-ltb}
 use Rattle.bits.specs.Words.{_and_, if_then_else_}
-use Rattle.bits.proofs.Truth.{and-false, and-left, and-right}
+use Rattle.bits.proofs.Truth.{clash, by-truth, is-false, and-intro, and-left, and-right, true-and, false-and, and-false, if-true, if-false}
 use Rattle.lines.specs.Bytes.{every, empty}
 use Rattle.lines.specs.Line.{digit, worth, plain, number}
+use Rattle.lines.proofs.Stepping.{digit-least, digit-most}
 
 -- ---- any base
 
@@ -37,21 +38,15 @@ module _ {A : Type 0} (good : ℕ → Bool) (base : ℕ) (one : ℕ → ℕ) (gr
 
   -- it comes to the same to look at the whole number
   pub along-total : (v : ℕ) (l : List ℕ) → v < 2 ^ 64 → along good base one done fail v l ≡ judged v l
-  unfolding along total every _and_ if_then_else_
-  along-total v [] h = rw (lt-ltb v (2 ^ 64) h)
-  along-total v (b ∷ l) h = go (good b) (ltb (v * base + one b) (2 ^ 64)) refl (λ k. along-total (v * base + one b) l k)
-    where
-      y : ℕ
-      y = v * base + one b
-
-      go : (g t : Bool) → ltb (v * base + one b) (2 ^ 64) ≡ t
-          → (v * base + one b < 2 ^ 64 → along good base one done fail (v * base + one b) l ≡ judged (v * base + one b) l)
-          → if_then_else_ (g and t) (along good base one done fail (v * base + one b) l) fail
-          ≡ if_then_else_ ((g and every good l) and ltb (total base one (v * base + one b) l) (2 ^ 64)) (done (total base one (v * base + one b) l)) fail
-      go true true e ih = ih (ltb-true _ _ e)
-      go true false e ih =
-          rw (and-false (every good l) (le-ltb (total base one (v * base + one b) l) (2 ^ 64) (le-trans (ltb-false _ _ e) (total-grows (v * base + one b) l))))
-      go false t e ih = refl
+  unfolding along total every
+  along-total v [] h = sym (if-true _ _ (and-intro refl (lt-ltb v (2 ^ 64) h)))
+  along-total v (b ∷ l) h =
+      let y = v * base + one b in
+      by-truth (good b and ltb y (2 ^ 64))
+      (λ e. if-true _ _ e ∙ rw (true-and (every good l) (and-left _ _ e)) (along-total y l (ltb-true _ _ (and-right (good b) _ e))))
+      (λ e. if-false _ _ e ∙ sym (if-false _ _ (is-false (λ k.
+      let small = ltb-true (total base one y l) (2 ^ 64) (and-right (good b and every good l) _ k) in
+      clash (and-intro (and-left _ _ (and-left _ _ k)) (lt-ltb y (2 ^ 64) (lt-of-le-of-lt (total-grows y l) small))) e))))
 
 -- ---- fields
 
@@ -67,35 +62,32 @@ digitsFrom v (b ∷ p) = if_then_else_ (ltb 0 v and (digit b and ltb (v * 10 + (
 
 -- behind another digit this is a digit at a time
 digits-along : (v : ℕ) (p : List ℕ) → 0 < v → digitsFrom v p ≡ along digit 10 (λ b. b - 48) some none v p
-unfolding digitsFrom along _and_
+unfolding digitsFrom along
 digits-along v [] h = refl
-digits-along v (b ∷ p) h = rw (lt-ltb 0 v h, digits-along (v * 10 + (b - 48)) p (omega arith))
+digits-along v (b ∷ p) h = rw (true-and _ (lt-ltb 0 v h), digits-along (v * 10 + (b - 48)) p (omega arith))
+
+pub number-none : number [] ≡ none
+unfolding number plain
+number-none = if-false _ _ (false-and _ refl)
 
 number-nought : (p : List ℕ) → number (48 ∷ p) ≡ digitsFrom 0 p
-unfolding number plain digitsFrom _and_ if_then_else_ empty worth
-number-nought [] = refl
-number-nought (b ∷ p) = refl
-
-number-other : (b : ℕ) (p : List ℕ) → digit b ≡ false → number (b ∷ p) ≡ none
-unfolding number plain _and_ if_then_else_
-number-other b p f = simp f
+unfolding number plain digitsFrom empty worth
+number-nought [] = if-true _ _ (and-intro (and-intro (and-intro refl refl) (if-true _ _ refl)) refl)
+number-nought (b ∷ p) = if-false _ _ (false-and _ (and-false (digit 48) (if-true _ _ refl))) ∙ sym (if-false _ _ (false-and _ refl))
 
 number-digits : (b : ℕ) (p : List ℕ) → eqb b 48 ≡ false → digit b ≡ true → number (b ∷ p) ≡ digitsFrom (b - 48) p
-unfolding number plain worth _and_ if_then_else_
+unfolding number plain worth
 number-digits b p e f =
-    let low : b ≤ 57 = leb-true b 57 (and-right (leb 48 b) (leb b 57) f) in
-    let high : 48 ≤ b = leb-true 48 b (and-left (leb 48 b) (leb b 57) f) in
+    let least = digit-least b f in
+    let most = digit-most b f in
     let other : b ≡ 48 → ⊥ = eqb-false b 48 e in
-    let fits : b - 48 < 2 ^ 64 = omega arith in
-    let whole = along-total digit 10 (λ b. b - 48) (λ v b. omega arith) some none (b - 48) p fits in
-    simp (e, f, zero-add) (sym (rw (worth-total (b - 48) p) at whole)) ∙ sym (digits-along (b - 48) p (omega arith))
+    let whole = along-total digit 10 (λ b. b - 48) (λ v b. omega arith) some none (b - 48) p (omega arith) in
+    rw (true-and _ f, if-false _ _ e, zero-add) (sym (rw (worth-total (b - 48) p) at whole)) ∙ sym (digits-along (b - 48) p (omega arith))
 
 -- a field a byte at a time
-pub number-along : (b : ℕ) (p : List ℕ) → number (b ∷ p) ≡ if_then_else_ (digit b) (digitsFrom (b - 48) p) none
-unfolding if_then_else_
-number-along b p = go (eqb b 48) (digit b) refl refl
-  where
-    go : (z d : Bool) → eqb b 48 ≡ z → digit b ≡ d → number (b ∷ p) ≡ if_then_else_ d (digitsFrom (b - 48) p) none
-    go true true e f = rw (eqb-true b 48 e) (number-nought p)
-    go false true e f = number-digits b p e f
-    go z false e f = number-other b p f
+pub number-along : (b : ℕ) (p : List ℕ) → number (b ∷ p) ≡ (if digit b then digitsFrom (b - 48) p else none)
+unfolding number plain
+number-along b p =
+    by-truth (digit b)
+    (λ f. by-truth (eqb b 48) (λ e. rw (eqb-true b 48 e) (number-nought p)) (λ e. number-digits b p e f) ∙ sym (if-true _ _ f))
+    (λ f. if-false _ _ (false-and _ (false-and _ f)) ∙ sym (if-false _ _ f))

@@ -1,18 +1,19 @@
 -- A word is told by its letters packed in one number. Assumes nothing.
-use Prim.Native.Nat.{ℕ, _+_, _*_, _^_, _≤_}
+use Prim.Native.Nat.{ℕ, _+_, _*_, _^_}
 use mathlib.Core.Path.{_≡_, refl, sym, ap, ap₂, _∙_}
-use mathlib.Core.Bool.{Bool, true, false}
+use mathlib.Core.Bool.{Bool, true}
 use mathlib.Core.List.{List, [], _∷_, reverseAux, reverse, reverse-reverse}
 use native.Mathlib.Omega.{arith}
-use lib.Dec.{eqb, leb, ltb, lit<}
-use borrow.Author.Tests.{eqb-true, eq-eqb, ne-eqb, leb-true}
+use lib.Dec.{eqb, ltb, lit<}
+use borrow.Author.Tests.{eqb-true, eq-eqb, ne-eqb}
 use Rattle.bits.specs.Words.{_and_, if_then_else_}
 use Rattle.lines.specs.Bytes.{every, same}
 use Rattle.lines.specs.Line.{Entry, words, find, spelled}
 use Rattle.lines.specs.Reader.{letter, packed, known, wordOf}
 use Rattle.lines.specs.declared.Spelled.{Spelled}
-use Rattle.lines.specs.declared.Spelled.the-variants.{As, Nothing}
-use Rattle.bits.proofs.Truth.{clash, and-left, and-right, and-intro}
+use Rattle.lines.specs.declared.Spelled.the-variants.{Nothing}
+use Rattle.bits.proofs.Truth.{clash, by-truth, and-left, and-right, and-intro, if-true, if-false, if-same}
+use Rattle.lines.proofs.Stepping.{letter-least, letter-most}
 use Rattle.lines.proofs.Values.{along, total, along-total}
 
 -- ---- equal lists
@@ -46,24 +47,18 @@ unfolding every
 every-reverse [] r h k = k
 every-reverse (b ∷ p) r h k = every-reverse p (b ∷ r) (and-right (letter b) _ h) (and-intro (and-left _ _ h) k)
 
-letter-low : (b : ℕ) → letter b ≡ true → 97 ≤ b
-letter-low b h = leb-true 97 b (and-left _ _ h)
-
-letter-high : (b : ℕ) → letter b ≡ true → b ≤ 122
-letter-high b h = leb-true b 122 (and-right (leb 97 b) _ h)
-
 low-injective : (r s : List ℕ) → every letter r ≡ true → every letter s ≡ true → low r ≡ low s → r ≡ s
 unfolding low every
 low-injective [] [] h k e = refl
 low-injective [] (b ∷ s) h k e =
-    let f = letter-low b (and-left _ _ k) in
+    let f = letter-least b (and-left _ _ k) in
     absurd (omega arith)
 low-injective (a ∷ r) [] h k e =
-    let f = letter-low a (and-left _ _ h) in
+    let f = letter-least a (and-left _ _ h) in
     absurd (omega arith)
 low-injective (a ∷ r) (b ∷ s) h k e =
-    let f = letter-high a (and-left _ _ h) in
-    let g = letter-high b (and-left _ _ k) in
+    let f = letter-most a (and-left _ _ h) in
+    let g = letter-most b (and-left _ _ k) in
     ap₂ _∷_ (omega arith) (low-injective r s (and-right (letter a) _ h) (and-right (letter b) _ k) (omega arith))
 
 packed-injective : (p q : List ℕ) → every letter p ≡ true → every letter q ≡ true → packed 0 p ≡ packed 0 q → p ≡ q
@@ -84,27 +79,23 @@ all-fit : List Entry → Bool
 all-fit [] = true
 all-fit (e ∷ es) = fit (e .letters) and all-fit es
 
-packed-find : (es : List Entry) (p : List ℕ) → all-fit es ≡ true → if_then_else_ (fit p) (known es (packed 0 p)) Nothing ≡ find es p
-unfolding find all-fit if_then_else_
-packed-find [] p h = go (fit p)
-  where
-    go : (t : Bool) → if_then_else_ t Nothing Nothing ≡ Nothing
-    go true = refl
-    go false = refl
-packed-find (e ∷ es) p h = go (same p (e .letters)) (fit p) refl refl (packed-find es p (and-right (fit (e .letters)) _ h))
-  where
-    here : fit (e .letters) ≡ true
-    here = and-left _ _ h
-
-    go : (s t : Bool) → same p (e .letters) ≡ s → fit p ≡ t → if_then_else_ (fit p) (known es (packed 0 p)) Nothing ≡ find es p
-        → if_then_else_ t (if_then_else_ (eqb (packed 0 p) (packed 0 (e .letters))) (As (e .word)) (known es (packed 0 p))) Nothing ≡ if_then_else_ s (As (e .word)) (find es p)
-    go true true a b ih = rw (eq-eqb (packed 0 p) (packed 0 (e .letters)) (ap (packed 0) (same-true p (e .letters) a)))
-    go true false a b ih = clash (rw (same-true p (e .letters) a) here) b
-    go false true a b ih =
-        let differ : packed 0 p ≡ packed 0 (e .letters) → ⊥ = λ q.
-        clash (rw (packed-injective p (e .letters) (and-left _ _ b) (and-left _ _ here) q) (same-refl (e .letters))) a in
-        rw (ne-eqb (packed 0 p) (packed 0 (e .letters)) differ) (rw b at ih)
-    go false false a b ih = rw b at ih
+packed-find : (es : List Entry) (p : List ℕ) → all-fit es ≡ true → (if fit p then known es (packed 0 p) else Nothing) ≡ find es p
+unfolding find all-fit
+packed-find [] p h = if-same (fit p) Nothing
+packed-find (e ∷ es) p h =
+    let here : fit (e .letters) ≡ true = and-left _ _ h in
+    by-truth (same p (e .letters))
+    (λ a. let q = same-true p (e .letters) a in
+    if-true _ _ (ap fit q ∙ here) ∙ if-true _ _ (eq-eqb _ _ (ap (packed 0) q)) ∙ sym (if-true _ _ a))
+    (λ a.
+    let rest : (if fit p then known es (packed 0 p) else Nothing) ≡ find (e ∷ es) p =
+    packed-find es p (and-right (fit (e .letters)) _ h) ∙ sym (if-false _ _ a) in
+    by-truth (fit p)
+    (λ b.
+    let differ : packed 0 p ≡ packed 0 (e .letters) → ⊥ = λ q.
+    clash (rw (packed-injective p (e .letters) (and-left _ _ b) (and-left _ _ here) q) (same-refl (e .letters))) a in
+    ap (λ (o : Spelled). if fit p then o else Nothing) (if-false _ _ (ne-eqb _ _ differ)) ∙ rest)
+    (λ b. if-false _ _ b ∙ sym (if-false _ _ b) ∙ rest))
 
 packed-total : (x : ℕ) (l : List ℕ) → total 256 (λ b. b) x l ≡ packed x l
 unfolding total
@@ -116,7 +107,7 @@ abbrev pub lettersFrom : ℕ → List ℕ → Spelled
 lettersFrom = along letter 256 (λ b. b) wordOf Nothing
 
 pub letters-spelled : (p : List ℕ) → lettersFrom 0 p ≡ spelled p
-unfolding spelled wordOf all-fit every _and_ if_then_else_
+unfolding spelled wordOf all-fit every _and_
 letters-spelled p =
     along-total letter 256 (λ b. b) (λ v b. omega arith) wordOf Nothing 0 p (lit< tt)
     ∙ rw (packed-total 0 p) (packed-find words p refl)

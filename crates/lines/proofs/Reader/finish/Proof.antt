@@ -1,12 +1,12 @@
 -- `finish` meets its contract. Assumes nothing.
 use borrow.Author.Needs.{needs}
-use Rattle.bits.specs.Words.{_and_, if_then_else_}
 use Rattle.lines.specs.Reader.{begun, stepOf, ended, finished}
+use Rattle.lines.proofs.Stepping.{word-tab, field-tab, digits-tab}
 use Rattle.lines.proofs.Reader.finish.Statement.{statement}
 use Rattle.lines.proofs.Reader.finish.Tie as tie
 
 pub finish-spec : {M : Type 1} → statement M
-unfolding finished stepOf ended begun _and_ if_then_else_
+unfolding finished stepOf ended begun
 finish-spec =
     tie.close
     (tie.spec
@@ -19,8 +19,8 @@ finish-spec =
     (λ c κs. search needs)
     (λ c κs. search needs)
     (λ c. search needs)
-    (λ c. rw (c .before .before .before .before .before .self .given .1, ← c .before .before .before .word-of .ensures, c .before .w .given .1))
-    (λ c. rw (c .before .before .before .before .self .given .1, ← c .before .before .word-of .ensures, c .enum-told .given .1))
-    (λ c. rw (c .enum-told2 .given .1))
-    (λ c. rw (c .before .before .before .self2 .given .1, ← c .before .pushed-on .ensures) (c .ended .ensures))
+    (λ c. rw (c .before .before .before .before .before .self .given .1, word-tab, ← c .before .before .before .word-of .ensures, c .before .w .given .1))
+    (λ c. rw (c .before .before .before .before .self .given .1, word-tab, ← c .before .before .word-of .ensures, c .enum-told .given .1))
+    (λ c. rw (c .enum-told2 .given .1, field-tab))
+    (λ c. rw (c .before .before .before .self2 .given .1, digits-tab, ← c .before .pushed-on .ensures) (c .ended .ensures))
     (λ c. rw (c .enum-told3 .given .1)))

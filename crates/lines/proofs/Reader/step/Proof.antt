@@ -3,22 +3,21 @@ use borrow.Author.Needs.{needs}
 use Prim.Native.Nat.{_≤_}
 use mathlib.Core.Path.{sym}
 use native.Mathlib.Omega.{arith}
-use Rattle.bits.specs.Words.{if_then_else_}
 use Rattle.bits.proofs.Truth.{confirmed, refuted}
 use Rattle.lines.specs.Reader.{stepOf, begun}
-use Rattle.lines.proofs.Stepping.{digit-least, digit-most, letter-step, letter-none, letter-over, field-step, field-none, digit-step, nought-step, digit-none, digit-over}
+use Rattle.lines.proofs.Stepping.{digit-least, digit-most, word-tab, digits-tab, letter-step, letter-none, letter-over, field-step, field-none, digit-step, nought-step, digit-none, digit-over}
 use Rattle.lines.proofs.Reader.step.Statement.{statement}
 use Rattle.lines.proofs.Reader.step.Tie as tie
 
 -- ---- in the word
 
 word-ends : tie.Need-returns
-unfolding stepOf if_then_else_ begun
-word-ends c = rw (c .before .before .before .before .before .before .self .given .1, c .before .before .before .before .if1 .taken, ← c .before .before .before .word-of .ensures, c .before .w .given .1)
+unfolding begun
+word-ends c = rw (c .before .before .before .before .before .before .self .given .1, c .before .before .before .before .if1 .taken, word-tab, ← c .before .before .before .word-of .ensures, c .before .w .given .1)
 
 no-word : tie.Need-returns-2
-unfolding stepOf if_then_else_ begun
-no-word c = rw (c .before .before .before .before .before .self .given .1, c .before .before .before .if1 .taken, ← c .before .before .word-of .ensures, c .enum-told .given .1)
+unfolding begun
+no-word c = rw (c .before .before .before .before .before .self .given .1, c .before .before .before .if1 .taken, word-tab, ← c .before .before .word-of .ensures, c .enum-told .given .1)
 
 no-letter : tie.Need-returns-3
 no-letter c = rw (c .before .before .before .before .self .given .1) (sym (letter-none _ _ (c .before .before .if1 .left) (refuted (c .before .is-letter .ensures) (c .if2 .taken))))
@@ -43,8 +42,7 @@ field-begins : tie.Need-returns-12
 field-begins c = rw (c .before .before .before .before .self2 .given .1, c .wide2 .ensures) (sym (field-step _ _ _ (confirmed (c .before .before .is-digit .ensures) (c .before .if4 .left))))
 
 field-ends : tie.Need-returns-6
-unfolding stepOf if_then_else_
-field-ends c = rw (c .before .before .before .self3 .given .1, c .before .if5 .taken) (c .pushed-on .ensures)
+field-ends c = rw (c .before .before .before .self3 .given .1, c .before .if5 .taken, digits-tab) (c .pushed-on .ensures)
 
 behind-nought : tie.Need-returns-7
 behind-nought c = rw (c .before .before .before .self3 .given .1) (sym (nought-step _ _ _ _ (c .before .if5 .left) (c .if6 .taken)))
