@@ -9,8 +9,7 @@ use lib.Dec.{ltb}
 use lib.ListN.{length, set, take, drop, getD, replicate, length-set, length-take, length-replicate, replicate-append-replicate, take-append-drop}
 use lib.Seq.{sets, sets-eq, set-set, getD-set-other, length-take-le, take-suc, take-append-seam, append-snoc}
 use borrow.Author.Tests.{ltb-true, ltb-false, lt-ltb, le-ltb}
-use Rattle.bits.specs.Words.{if_then_else_}
-use Rattle.bits.proofs.Truth.{by-truth}
+use Rattle.bits.proofs.Truth.{by-truth, if-true, if-false}
 use Rattle.output.specs.Text.{text, decimal, increased, next, rowOf, row, holding, numbered, Wrote}
 use Rattle.output.proofs.Writing.{wrote-one, wrote-more, set-sets, sets-append, text-one, text-more, length-decimal, wrote-held, numbered-there}
 
@@ -21,12 +20,12 @@ unfolding next increased
 next-none = refl
 
 next-low : (p : List ℕ) (b : ℕ) → b < 57 → next (p ++ (b ∷ [])) ≡ p ++ ((b + 1) ∷ [])
-unfolding next increased if_then_else_
-next-low p b h = simp (reverse-append, reverse-reverse, reverse-cons, lt-ltb b 57 h)
+unfolding next increased
+next-low p b h = simp (reverse-append, reverse-reverse, reverse-cons, lt-ltb b 57 h, if-true)
 
 next-high : (p : List ℕ) (b : ℕ) → 57 ≤ b → next (p ++ (b ∷ [])) ≡ next p ++ (48 ∷ [])
-unfolding next increased if_then_else_
-next-high p b h = simp (reverse-append, reverse-cons, le-ltb b 57 h)
+unfolding next increased
+next-high p b h = simp (reverse-append, reverse-cons, le-ltb b 57 h, if-false)
 
 module _ (k n : ℕ) (room : n + 1 < 10 ^ suc k) where
   -- below 9, 9, and more with a last digit below 9 or 9

@@ -1,17 +1,14 @@
 -- Laws of bytes stored one behind the other or one over the other, and of the length of a number's text. Assumes nothing.
 use Prim.Native.Nat.{ℕ, zero, suc, _+_, _-_, _/_, _%_, _≤_, _<_}
 use mathlib.Core.Path.{_≡_, refl, sym, ap, _∙_}
-use mathlib.Core.Bool.{Bool, true, false}
 use mathlib.Core.List.{List, [], _∷_, _++_}
 use native.Mathlib.Nat.{add-zero, add-assoc, add-suc, suc-add, le-trans}
 use native.Mathlib.Numerals.{add-one, sub-one}
 use native.Mathlib.Omega.{arith}
-use lib.Dec.{leb}
 use lib.ListN.{length, set, take, drop, getD, length-append, length-take, length-drop}
 use lib.Seq.{sets, set-set, set-comm, getD-drop, take-add, take-suc, length-take-le}
 use borrow.Author.Tests.{leb-true, le-leb, lt-leb}
-use Rattle.bits.specs.Words.{if_then_else_}
-use Rattle.bits.proofs.Truth.{and-intro, and-false, false-and, if-true, if-false}
+use Rattle.bits.proofs.Truth.{and-intro, and-false, false-and, if-true, if-false, by-if}
 use Rattle.output.specs.Text.{text, decimal, column, rowOf, row, rowRoom, fitting, holding, numbered, Wrote}
 
 pub wrote-nothing : (l : List ℕ) (at : ℕ) → Wrote l at [] l at
@@ -78,27 +75,25 @@ wrote-both {l} {m} {r} {at} {i} {k} s n j h q v w =
 -- ---- the text of a number
 
 pub text-none : (k n : ℕ) → k ≡ 0 → text k n ≡ []
-unfolding text if_then_else_
+unfolding text
 text-none k n e = rw e
 
 pub text-one : (k n : ℕ) → (k ≡ 0 → ⊥) → n ≤ 9 → text k n ≡ (48 + n) ∷ []
-unfolding text if_then_else_
+unfolding text
 text-one zero n h s = absurd (h refl)
-text-one (suc k) n h s = rw (le-leb n 9 s)
+text-one (suc k) n h s = if-true _ _ (le-leb n 9 s)
 
 pub text-more : (k n : ℕ) → (k ≡ 0 → ⊥) → 9 < n → text k n ≡ text (k - 1) (n / 10) ++ ((48 + n % 10) ∷ [])
-unfolding text if_then_else_
+unfolding text
 text-more zero n h s = absurd (h refl)
-text-more (suc k) n h s = rw (lt-leb n 9 s, sub-one)
+text-more (suc k) n h s = rw (if-false _ _ (lt-leb n 9 s), sub-one)
 
 pub length-text : (k n : ℕ) → length (text k n) ≤ k
-unfolding text if_then_else_
+unfolding text
 length-text zero n = omega arith
-length-text (suc k) n = go (leb n 9) (length-text k (n / 10))
-  where
-    go : (t : Bool) → length (text k (n / 10)) ≤ k → length (if_then_else_ t ((48 + n) ∷ []) (text k (n / 10) ++ ((48 + n % 10) ∷ []))) ≤ suc k
-    go true ih = omega arith
-    go false ih = rw (length-append (text k (n / 10)) ((48 + n % 10) ∷ [])) (omega arith)
+length-text (suc k) n =
+    let ih = length-text k (n / 10) in
+    by-if (λ (l : List ℕ). length l ≤ suc k) _ (λ e. omega arith) (λ e. rw (length-append (text k (n / 10)) ((48 + n % 10) ∷ [])) (omega arith))
 
 pub length-decimal : (n : ℕ) → length (decimal n) ≤ 20
 unfolding decimal
@@ -148,9 +143,7 @@ module _ (out : List ℕ) (at : ℕ) (bytes : List ℕ) where
 pub wrote-held : {result : List ℕ} {next : ℕ} (out : List ℕ) (at n : ℕ) (bytes : List ℕ) → n ≤ length out
     → Wrote out at (holding out n bytes) result next → Wrote out at bytes result next
 unfolding holding
-wrote-held out at n bytes h w =
-    let e = if-true bytes [] (le-leb n (length out) h) in
-    rw e at w
+wrote-held out at n bytes h w = rw (if-true bytes [] (le-leb n (length out) h)) at w
 
 module _ (digits : List ℕ) (k answer spent : ℕ) where
   pub numbered-there : k ≤ 20 → k ≤ length digits → numbered digits k answer spent ≡ rowOf (take k digits) answer spent
@@ -169,24 +162,17 @@ module _ (digits : List ℕ) (k answer spent : ℕ) where
 pub wrote-row : (out : List ℕ) (at : ℕ) (bytes result : List ℕ) (next : ℕ) → at + rowRoom ≤ length out
     → Wrote out at (fitting out at bytes) result next → Wrote out at bytes result next
 unfolding fitting
-wrote-row out at bytes result next h w =
-    let e = if-true bytes [] (le-leb (at + rowRoom) (length out) h) in
-    rw e at w
+wrote-row out at bytes result next h w = rw (if-true bytes [] (le-leb (at + rowRoom) (length out) h)) at w
 
 pub wrote-no-row : (out : List ℕ) (at : ℕ) → Wrote out at (fitting out at []) out at
-unfolding fitting if_then_else_
-wrote-no-row out at = go (leb (at + rowRoom) (length out))
-  where
-    go : (t : Bool) → Wrote out at (if_then_else_ t [] []) out at
-    go true = wrote-nothing out at
-    go false = wrote-nothing out at
+unfolding fitting
+wrote-no-row out at = by-if (λ (l : List ℕ). Wrote out at l out at) _ (λ e. wrote-nothing out at) (λ e. wrote-nothing out at)
 
 -- with room for a row or without, it ends within out
 pub wrote-within : (out : List ℕ) (at : ℕ) (bytes result : List ℕ) (next : ℕ) → at ≤ length out → length bytes ≤ rowRoom
     → Wrote out at (fitting out at bytes) result next → next ≤ length out
-unfolding fitting if_then_else_
-wrote-within out at bytes result next h k w = go (leb (at + rowRoom) (length out)) refl w
-  where
-    go : (t : Bool) → leb (at + rowRoom) (length out) ≡ t → Wrote out at (if_then_else_ t bytes []) result next → next ≤ length out
-    go true e v = let room = leb-true (at + rowRoom) (length out) e in omega (arith, v .next-is)
-    go false e v = omega (arith, v .next-is)
+unfolding fitting
+wrote-within out at bytes result next h k =
+    by-if (λ (l : List ℕ). Wrote out at l result next → next ≤ length out) _
+    (λ e v. let room = leb-true (at + rowRoom) (length out) e in omega (arith, v .next-is))
+    (λ e v. omega (arith, v .next-is))
