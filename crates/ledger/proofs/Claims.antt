@@ -1,17 +1,14 @@
 -- The claims of specs/Claims.antt: by what is due for the line. Assumes nothing.
 use Prim.Native.Nat.{ℕ, _<_}
 use mathlib.Core.Path.{_≡_, refl, sym, ap, ap₂, _∙_}
-use mathlib.Core.Bool.{Bool, true, false, not}
+use mathlib.Core.Bool.{Bool, not}
 use mathlib.Core.List.{List}
 use native.Mathlib.Omega.{arith}
-use lib.Dec.{eqb, leb}
+use lib.Dec.{leb}
 use borrow.Author.Tests.{eqb-true, ne-eqb}
 use Rattle.bits.specs.Words.{_and_, if_then_else_}
-use Rattle.bits.proofs.Truth.{if-false}
-use Rattle.table.specs.Reading.{state}
-use Rattle.table.specs.Table.{encode}
-use Rattle.requests.specs.Request.{Ask, ask, Outcome, refuse, decide, accept}
-use Rattle.rbac.specs.Roles.{decode, allowed, changed}
+use Rattle.bits.proofs.Truth.{if-false, by-if}
+use Rattle.requests.specs.Request.{Ask, ask, Outcome, refuse, accept}
 use Rattle.rbac.specs.Guard.{roleStep}
 use Rattle.rbac.proofs.Steps.{by-step, decided, step-sound}
 use Rattle.rbac.proofs.Claims.{served-same}
@@ -20,7 +17,7 @@ use Rattle.entries.specs.Words.{dueOf}
 use Rattle.entries.specs.declared.Mode.{Mode}
 use Rattle.entries.specs.declared.Mode.the-variants.{RoleMode, LatticeMode}
 use Rattle.entries.specs.declared.Phase.{Phase}
-use Rattle.entries.specs.declared.Phase.the-variants.{SettingUp, Running}
+use Rattle.entries.specs.declared.Phase.the-variants.{Opening, SettingUp, Running}
 use Rattle.entries.specs.declared.Setting.{Setting}
 use Rattle.entries.specs.declared.Setting.the-variants.{Juniors, Permissions, Clearances, Labels}
 use Rattle.entries.specs.declared.Due.{Due}
@@ -28,8 +25,8 @@ use Rattle.entries.specs.declared.Due.the-variants.{Refuse, Choose, Put, SetUp,
 use Rattle.ledger.specs.Store.{Store, withPhase, withTable, withJuniors, withPermissions, withClearances, withLabels, added, stored}
 use Rattle.ledger.specs.Step.{guarded, unguarded, asked, setUpBy, lifted, put, phaseAfter, ran, performed, step}
 use Rattle.ledger.specs.Claims.{SoundFor, SoundIn, StoreSound, StaysSound, ServedSame, RefusedLeaves}
-use Rattle.ledger.proofs.Places.{Fits, due-fits}
-use Rattle.ledger.proofs.Spending.{set-up-spends}
+use Rattle.entries.proofs.Places.{Fits, due-fits}
+use Rattle.ledger.proofs.Spending.{decided-small, set-up-spends}
 use Rattle.ledger.proofs.Lattice.{label-same, label-sound, label-refused, label-set-up-sound, label-set-up-refused, label-set-up-spends}
 
 -- ---- requests and set-ups of either mode
@@ -44,18 +41,17 @@ unfolding SoundFor asked guarded
 asked-sound RoleMode t q s = step-sound t q s
 asked-sound LatticeMode t q s = label-sound t q s
 
-role-refused : (t : List ℕ) (q : Ask) → 1 < roleStep t q .answer → (roleStep t q .state ≡ t) × (roleStep t q .spent ≡ 0)
-unfolding decide
+-- no refusal, or one that leaves what it was for
+abbrev Leaves : {S : Type 0} → S → Outcome S → Type 0
+Leaves old o = 1 < o .answer → (o .state ≡ old) × (o .spent ≡ 0)
+
+role-refused : (t : List ℕ) (q : Ask) → Leaves t (roleStep t q)
 role-refused t q h =
     by-step t q
     (λ n k e. (ap (λ (o : Outcome (List ℕ)). o .state) e, ap (λ (o : Outcome (List ℕ)). o .spent) e))
-    (λ p. absurd (small (allowed (state t) (decode q)) (encode (changed (state t) (decode q))) (ap (λ (o : Outcome (List ℕ)). o .answer) (decided t q p))))
-  where
-    small : (b : Bool) (new : List ℕ) → roleStep t q .answer ≡ decide b 1 1 new t .answer → ⊥
-    small true new e = omega arith
-    small false new e = omega arith
+    (λ p. absurd (omega (arith, decided-small _ _ _ _ _ (decided t q p))))
 
-asked-refused : (m : Mode) (t : List ℕ) (q : Ask) → SoundFor m t → 1 < asked guarded m t q .answer → (asked guarded m t q .state ≡ t) × (asked guarded m t q .spent ≡ 0)
+asked-refused : (m : Mode) (t : List ℕ) (q : Ask) → SoundFor m t → Leaves t (asked guarded m t q)
 unfolding SoundFor asked guarded
 asked-refused RoleMode t q s h = role-refused t q h
 asked-refused LatticeMode t q s h = label-refused t q s h
@@ -81,6 +77,10 @@ module _ (d : Store) where
 
 -- ---- the table stays sound
 
+pub opening-sound : (t : List ℕ) → SoundIn Opening t
+unfolding SoundIn
+opening-sound t = tt
+
 put-sound : (d : Store) (s : Setting) (a b : ℕ) → StoreSound d → StoreSound (put d s a b .state)
 unfolding put lifted
 put-sound d Juniors a b h = h
@@ -89,12 +89,8 @@ put-sound d Clearances a b h = h
 put-sound d Labels a b h = h
 
 ran-sound : (d : Store) (m : Mode) (o : Outcome (List ℕ)) → (o .answer ≡ 1 → SoundFor m (o .state)) → StoreSound (ran d m o .state)
-unfolding ran lifted phaseAfter SoundIn if_then_else_
-ran-sound d m o f = go (eqb (o .answer) 1) refl
-  where
-    go : (t : Bool) → eqb (o .answer) 1 ≡ t → SoundIn (if_then_else_ t (Running m) (SettingUp m)) (o .state)
-    go true e = f (eqb-true _ _ e)
-    go false e = tt
+unfolding ran lifted phaseAfter SoundIn
+ran-sound d m o f = by-if (λ (p : Phase). SoundIn p (o .state)) _ (λ e. f (eqb-true _ _ e)) (λ e. tt)
 
 due-sound : (d : Store) (x : Due) → StoreSound d → Fits (d .phase) x → StoreSound (performed guarded d x .state)
 unfolding performed lifted SoundIn
@@ -127,55 +123,44 @@ line-same d l h = due-same d (dueOf (d .phase) l) h (due-fits (d .phase) l)
 
 -- ---- a refused line
 
--- an outcome that is no refusal, or leaves what it was for
-leaves-list : {o : Outcome (List ℕ)} (b : Bool) (l k : List ℕ) → o ≡ (if_then_else_ (not b) (refuse 19 l) (accept k)) → 1 < o .answer → (o .state ≡ l) × (o .spent ≡ 0)
-unfolding if_then_else_
-leaves-list true l k e h = let n = ap (λ (p : Outcome (List ℕ)). p .answer) e in absurd (omega arith)
-leaves-list false l k e h = (ap (λ (p : Outcome (List ℕ)). p .state) e, ap (λ (p : Outcome (List ℕ)). p .spent) e)
+chosen-leaves : (b : Bool) (l k : List ℕ) → Leaves l (if not b then refuse 19 l else accept k)
+chosen-leaves b l k = by-if (Leaves l) (not b) (λ e h. (refl, refl)) (λ e h. absurd (omega arith))
 
-added-refused : (l : List ℕ) (last i v : ℕ) → 1 < added l last i v .answer → (added l last i v .state ≡ l) × (added l last i v .spent ≡ 0)
+added-refused : (l : List ℕ) (last i v : ℕ) → Leaves l (added l last i v)
 unfolding added
-added-refused l last i v h = leaves-list (leb i last and leb v 63) l _ refl h
+added-refused l last i v = chosen-leaves (leb i last and leb v 63) l _
 
-stored-refused : (l : List ℕ) (i v : ℕ) → 1 < stored l i v .answer → (stored l i v .state ≡ l) × (stored l i v .spent ≡ 0)
+stored-refused : (l : List ℕ) (i v : ℕ) → Leaves l (stored l i v)
 unfolding stored
-stored-refused l i v h = leaves-list (leb i 63 and leb v 31) l _ refl h
+stored-refused l i v = chosen-leaves (leb i 63 and leb v 31) l _
 
-put-refused : (d : Store) (s : Setting) (a b : ℕ) → 1 < put d s a b .answer → (put d s a b .state ≡ d) × (put d s a b .spent ≡ 0)
-unfolding put lifted
-put-refused d Juniors a b h = let r = added-refused (d .juniors) 63 a b h in (ap (withJuniors d) (r .0), r .1)
-put-refused d Permissions a b h = let r = added-refused (d .permissions) 7 a b h in (ap (withPermissions d) (r .0), r .1)
-put-refused d Clearances a b h = let r = stored-refused (d .clearances) a b h in (ap (withClearances d) (r .0), r .1)
-put-refused d Labels a b h = let r = stored-refused (d .labels) a b h in (ap (withLabels d) (r .0), r .1)
+lifted-leaves : (f : List ℕ → Store) {l : List ℕ} {o : Outcome (List ℕ)} → Leaves l o → Leaves (f l) (lifted f o)
+unfolding lifted
+lifted-leaves f k h = let r = k h in (ap f (r .0), r .1)
 
-ran-refused : (d : Store) (m : Mode) (o : Outcome (List ℕ)) → d .phase ≡ SettingUp m → o .state ≡ d .table → 0 ≡ o .spent → 1 < o .answer
-    → (ran d m o .state ≡ d) × (ran d m o .spent ≡ 0)
+put-refused : (d : Store) (s : Setting) (a b : ℕ) → Leaves d (put d s a b)
+unfolding put
+put-refused d Juniors a b = lifted-leaves (withJuniors d) (added-refused (d .juniors) 63 a b)
+put-refused d Permissions a b = lifted-leaves (withPermissions d) (added-refused (d .permissions) 7 a b)
+put-refused d Clearances a b = lifted-leaves (withClearances d) (stored-refused (d .clearances) a b)
+put-refused d Labels a b = lifted-leaves (withLabels d) (stored-refused (d .labels) a b)
+
+ran-refused : (d : Store) (m : Mode) (o : Outcome (List ℕ)) → d .phase ≡ SettingUp m → (1 < o .answer → o .state ≡ d .table) → 0 ≡ o .spent → Leaves d (ran d m o)
 unfolding ran lifted phaseAfter
 ran-refused d m o p t z h =
     let q : phaseAfter m (o .answer) ≡ d .phase = if-false _ _ (ne-eqb (o .answer) 1 (λ e. omega arith)) ∙ sym p in
-    (ap₂ (λ (x : List ℕ) (y : Phase). withPhase (withTable d x) y) t q, sym z)
+    (ap₂ (λ (x : List ℕ) (y : Phase). withPhase (withTable d x) y) (t h) q, sym z)
 
-set-up-left : (d : Store) (m : Mode) → d .phase ≡ SettingUp m → 1 < ran d m (set-up-of d m) .answer
-    → (ran d m (set-up-of d m) .state ≡ d) × (ran d m (set-up-of d m) .spent ≡ 0)
-unfolding ran lifted
-set-up-left d m f h = ran-refused d m (set-up-of d m) f (made-same d m (λ e. omega arith)) (made-spends d m) h
-
-request-left : (d : Store) (m : Mode) (q : Ask) → SoundFor m (d .table) → 1 < lifted (withTable d) (asked guarded m (d .table) q) .answer
-    → (lifted (withTable d) (asked guarded m (d .table) q) .state ≡ d) × (lifted (withTable d) (asked guarded m (d .table) q) .spent ≡ 0)
-unfolding lifted
-request-left d m q s h = let r = asked-refused m (d .table) q s h in (ap (withTable d) (r .0), r .1)
-
-due-refused : (d : Store) (x : Due) → StoreSound d → Fits (d .phase) x → 1 < performed guarded d x .answer
-    → (performed guarded d x .state ≡ d) × (performed guarded d x .spent ≡ 0)
+due-left : (d : Store) (x : Due) → StoreSound d → Fits (d .phase) x → Leaves d (performed guarded d x)
 unfolding performed SoundIn
-due-refused d (Refuse f) s p h = (refl, refl)
-due-refused d (Choose m) s p h = absurd (omega arith)
-due-refused d (Put l i v) s p h = put-refused d l i v h
-due-refused d (SetUp m) s p h = set-up-left d m p h
-due-refused d (Request m code a b c) s p h = request-left d m (ask code a b c) (rw (p .0) at s) h
+due-left d (Refuse f) s p h = (refl, refl)
+due-left d (Choose m) s p h = absurd (omega arith)
+due-left d (Put l i v) s p h = put-refused d l i v h
+due-left d (SetUp m) s p h = ran-refused d m (set-up-of d m) p (λ k. made-same d m (λ e. omega arith)) (made-spends d m) h
+due-left d (Request m code a b c) s p h = lifted-leaves (withTable d) (asked-refused m (d .table) (ask code a b c) (rw (p .0) at s)) h
 
 pub refused-leaves : RefusedLeaves
 unfolding step
 refused-leaves d l s h =
-    let r = due-refused d (dueOf (d .phase) l) s (due-fits (d .phase) l) h in
+    let r = due-left d (dueOf (d .phase) l) s (due-fits (d .phase) l) h in
     record { unchanged = r .0; no-spending = r .1 }

@@ -19,7 +19,7 @@ use Rattle.entries.specs.declared.Due.{Due}
 use Rattle.entries.specs.declared.Due.the-variants.{Refuse, Choose, Put, SetUp, Request}
 use Rattle.ledger.specs.Store.{Store, withTable}
 use Rattle.ledger.specs.Step.{guarded, asked, setUpBy, lifted, put, phaseAfter, ran, performed, step}
-use Rattle.ledger.proofs.Places.{Fits, due-fits}
+use Rattle.entries.proofs.Places.{Fits, due-fits}
 use Rattle.ledger.proofs.Spending.{by-set-up}
 use Rattle.ledger.proofs.Lattice.{by-label-set-up}
 use Rattle.ledger.proofs.Claims.{set-up-of}

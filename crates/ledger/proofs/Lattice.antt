@@ -1,7 +1,7 @@
 -- What transcripts know of lattice mode: the laws of the label set-up and of label requests. Assumes nothing.
 use Prim.Native.Nat.{ℕ, _≤_, _<_}
 use mathlib.Core.Path.{_≡_, refl, sym, ap, _∙_}
-use mathlib.Core.Bool.{Bool, true, false}
+use mathlib.Core.Bool.{Bool, true}
 use mathlib.Core.List.{List}
 use native.Mathlib.Omega.{arith}
 use lib.Dec.{eqb}
@@ -25,6 +25,7 @@ use Rattle.labels.proofs.Refusing.{is-code}
 use Rattle.labels.proofs.Claims.{kept-sound}
 use Rattle.simulation.proofs.Deciding.{pictured, picture-decide, picture-refuse}
 use Rattle.simulation.proofs.Simulation.{Good, one-step, one-step-served, next-good}
+use Rattle.ledger.proofs.Spending.{decided-small, spends}
 
 -- ---- the set-up
 
@@ -65,9 +66,6 @@ module _ (t u clearances labels : List ℕ) (same : isTable t ≡ isTable u) whe
 
 pub label-set-up-spends : (t clearances labels : List ℕ) → 0 ≡ labelSetUp t clearances labels .spent
 label-set-up-spends t clearances labels = by-label-set-up t t clearances labels refl (λ n k e f. spends e) (λ new e f. spends e)
-  where
-    spends : {o o′ : Outcome (List ℕ)} → o ≡ o′ → o′ .spent ≡ o .spent
-    spends e = sym (ap (λ (p : Outcome (List ℕ)). p .spent) e)
 
 -- ---- requests on the image of a machine state
 
@@ -99,20 +97,15 @@ module _ (t : List ℕ) (q : Ask) (h : (isSound t ≡ true) × Imaged t) where
   )
 
   pub label-refused : 1 < labelStep t q .answer → (labelStep t q .state ≡ t) × (labelStep t q .spent ≡ 0)
-  unfolding decide
   label-refused k =
       by-truth (isCode q)
       (λ c. by-truth (inRange q)
-      (λ r. absurd (small (allowed m (decode q)) _ _ _ _ (ap (λ (o : Outcome (List ℕ)). o .answer) (machined ∙ ap pictured (step-act m q c r) ∙ picture-decide (allowed m (decode q)) _ _ _ m))))
+      (λ r. absurd (omega (arith, decided-small (allowed m (decode q)) _ _ _ _ (machined ∙ ap pictured (step-act m q c r) ∙ picture-decide (allowed m (decode q)) _ _ _ m))))
       (λ r. left 16 (machined ∙ ap pictured (step-argument m q c r) ∙ picture-refuse 16 m)))
       (λ c. left 15 (machined ∙ ap pictured (step-code m q c) ∙ picture-refuse 15 m))
     where
       left : (n : ℕ) → labelStep t q ≡ refuse n (image m) → (labelStep t q .state ≡ t) × (labelStep t q .spent ≡ 0)
       left n e = (ap (λ (o : Outcome (List ℕ)). o .state) e ∙ sym (h .1 .is-image), ap (λ (o : Outcome (List ℕ)). o .spent) e)
-
-      small : (b : Bool) (y n : ℕ) (new old : List ℕ) → labelStep t q .answer ≡ decide b y n new old .answer → ⊥
-      small true y n new old e = omega arith
-      small false y n new old e = omega arith
 
   -- a request of a code from 1 to 5: refusal 16, or yes or no
   pub by-label : {A : Type 0} → 1 ≤ q .code → q .code ≤ 5 → (labelStep t q ≡ refuse 16 (image m) → A)

@@ -2,7 +2,6 @@
 pub mod Listing
 pub mod Lifting
 pub mod Spending
-pub mod Places
 pub mod Lattice
 pub mod Claims
 pub mod Showing

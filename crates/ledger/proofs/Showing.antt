@@ -1,21 +1,21 @@
 -- Which answers a transcript shows. Assumes nothing.
-use Prim.Native.Nat.{ℕ, _≤_}
+use Prim.Native.Nat.{ℕ, _≤_, _<_}
 use mathlib.Core.Path.{_≡_, refl, ap, _∙_}
-use mathlib.Core.Bool.{Bool, true, false, not}
+use mathlib.Core.Bool.{true}
 use mathlib.Core.List.{List}
 use native.Mathlib.Omega.{arith}
-use lib.Dec.{eqb, leb, ltb}
+use lib.Dec.{eqb, leb}
 use lib.ListN.{length, getD, set, length-set}
 use lib.Seq.{getD-set-same, getD-set-other}
-use borrow.Author.Tests.{eqb-true, eqb-false, le-leb, leb-true, lt-ltb}
-use Rattle.bits.specs.Words.{_and_, _or_, if_then_else_}
-use Rattle.bits.proofs.Truth.{by-truth, and-left, and-right, or-left, past, stopped}
+use borrow.Author.Tests.{eqb-true, eqb-false, le-leb, leb-true, lt-ltb, ltb-true}
+use Rattle.bits.specs.Words.{_and_, _or_}
+use Rattle.bits.proofs.Truth.{by-truth, and-left, and-right, or-left, by-if, past, stopped}
 use Rattle.bits.proofs.Below.{all-intro, all-elim}
 use Rattle.table.specs.Table.{isTable}
 use Rattle.table.specs.Reading.{state}
 use Rattle.sound.specs.Answers.{isSound}
 use Rattle.sound.proofs.Answers.{sound-state, sound-table}
-use Rattle.requests.specs.Request.{Ask, ask, Outcome, refuse, decide, accept}
+use Rattle.requests.specs.Request.{Ask, ask, Outcome, refuse, accept}
 use Rattle.rbac.specs.Roles.{inRange, decode, known, allowed, changed}
 use Rattle.rbac.specs.Guard.{roleStep}
 use Rattle.rbac.proofs.Codes.{is-code, no-pair}
@@ -39,9 +39,20 @@ use Rattle.entries.specs.declared.Due.the-variants.{Refuse, Choose, Put, SetUp,
 use Rattle.ledger.specs.Store.{Store, withPhase, withTable, added, stored}
 use Rattle.ledger.specs.Step.{guarded, asked, setUpBy, lifted, put, ran, performed, step}
 use Rattle.ledger.specs.Claims.{SoundFor, SoundIn, StoreSound, shows, Proper, LineShows}
-use Rattle.ledger.proofs.Places.{most, Fits, due-fits}
+use Rattle.entries.proofs.Places.{most, Fits, due-fits}
+use Rattle.ledger.proofs.Spending.{decided-small}
 use Rattle.ledger.proofs.Lattice.{by-label}
 use Rattle.ledger.proofs.Claims.{set-up-of, asked-sound, made-sound, made-same}
+
+-- ---- lists of labels
+
+pub labels-intro : (l : List ℕ) → ((i : ℕ) → i < 64 → getD l i 0 < 32) → areLabels l ≡ true
+unfolding areLabels
+labels-intro l k = all-intro _ 64 (λ i h. lt-ltb _ 32 (k i h))
+
+labels-elim : (l : List ℕ) → areLabels l ≡ true → (i : ℕ) → i < 64 → getD l i 0 < 32
+unfolding areLabels
+labels-elim l a i h = ltb-true _ 32 (all-elim _ 64 a i h)
 
 -- ---- numbers that are shown
 
@@ -49,50 +60,45 @@ shows-small : (n : ℕ) → n ≤ 1 → shows n ≡ true
 unfolding shows
 shows-small n h = or-left _ (le-leb n 1 h)
 
-shows-decided : (b : Bool) (y n : ℕ) (new old : List ℕ) → shows (decide b y n new old .answer) ≡ true
-unfolding decide
-shows-decided true y n new old = shows-small 1 (omega arith)
-shows-decided false y n new old = shows-small 0 (omega arith)
-
 shows-as : {o o′ : Outcome (List ℕ)} → o ≡ o′ → shows (o′ .answer) ≡ true → shows (o .answer) ≡ true
 shows-as e h = ap (λ (p : Outcome (List ℕ)). shows (p .answer)) e ∙ h
 
-shows-fault : (f : Fault) → shows (faultNumber f) ≡ true
+-- the refusals that are shown
+listed : (shows 10 ≡ true) × (shows 11 ≡ true) × (shows 16 ≡ true) × (shows 17 ≡ true) × (shows 19 ≡ true) × (shows 20 ≡ true)
 unfolding shows _or_
-shows-fault WrongForm = refl
-shows-fault OutOfPlace = refl
+listed = (refl, refl, refl, refl, refl, refl)
+
+shows-fault : (f : Fault) → shows (faultNumber f) ≡ true
+shows-fault WrongForm = listed .0
+shows-fault OutOfPlace = listed .1
 
 -- ---- requests and set-ups
 
 role-shows : (t : List ℕ) (q : Ask) → isSound t ≡ true → 1 ≤ q .code → q .code ≤ 10 → shows (roleStep t q .answer) ≡ true
-unfolding shows _or_
 role-shows t q s l h =
     let e = role-step-sound t q (sound-table t s) (sound-state t s) in
     let c = is-code q l (omega arith) in
-    let b = no-pair q h in
     by-truth (inRange q)
-    (λ r. by-truth (known (state t) (decode q))
-    (λ k. shows-as (e ∙ checked-served allowed changed t q c r b ∙ served-known allowed changed t (decode q) k) (shows-decided (allowed (state t) (decode q)) 1 1 _ t))
-    (λ k. shows-as (e ∙ checked-served allowed changed t q c r b ∙ served-unknown allowed changed t (decode q) k) refl))
-    (λ r. shows-as (e ∙ checked-argument allowed changed t q c r) refl)
-
-refused-shows : {o : Outcome (List ℕ)} (t : List ℕ) → o ≡ refuse 16 t → shows (o .answer) ≡ true
-unfolding shows _or_
-refused-shows t e = shows-as e refl
+    (λ r.
+    let d = e ∙ checked-served allowed changed t q c r (no-pair q h) in
+    by-truth (known (state t) (decode q))
+    (λ k. shows-small _ (decided-small (allowed (state t) (decode q)) _ _ _ _ (d ∙ served-known allowed changed t (decode q) k)))
+    (λ k. shows-as (d ∙ served-unknown allowed changed t (decode q) k) (listed .3)))
+    (λ r. shows-as (e ∙ checked-argument allowed changed t q c r) (listed .2))
 
 asked-shows : (m : Mode) (t : List ℕ) (q : Ask) → SoundFor m t → 1 ≤ q .code → q .code ≤ most m → shows (asked guarded m t q .answer) ≡ true
 unfolding asked guarded SoundFor
 asked-shows RoleMode t q s l h = role-shows t q s l h
-asked-shows LatticeMode t q s l h = by-label t q s l h (λ e. refused-shows _ e) (λ b y n new old e. shows-as e (shows-decided b y n new old))
+asked-shows LatticeMode t q s l h = by-label t q s l h (λ e. shows-as e (listed .2)) (λ b y n new old e. shows-small _ (decided-small b y n new old e))
 
 made-shows : (d : Store) (m : Mode) → Proper d → shows (set-up-of d m .answer) ≡ true
-unfolding setUpBy shows _or_
+unfolding setUpBy
 made-shows d RoleMode p =
     by-truth (acyclic (closure (d .juniors)))
-    (λ a. shows-as (set-up-accepted (d .table) (d .juniors) (d .permissions) (p .table) (p .juniors) (p .permissions) a) refl)
-    (λ a. shows-as (set-up-cycle (d .table) (d .juniors) (d .permissions) (p .table) (p .juniors) (p .permissions) a) refl)
+    (λ a. shows-as (set-up-accepted (d .table) (d .juniors) (d .permissions) (p .table) (p .juniors) (p .permissions) a) (shows-small 1 (omega arith)))
+    (λ a. shows-as (set-up-cycle (d .table) (d .juniors) (d .permissions) (p .table) (p .juniors) (p .permissions) a) (listed .5))
 made-shows d LatticeMode p =
-    shows-as (image.set-up-accepted (d .table) (d .clearances) (d .labels) (p .table) (p .clearances) (p .labels) (p .clearances-known) (p .labels-known)) refl
+    shows-as (image.set-up-accepted (d .table) (d .clearances) (d .labels) (p .table) (p .clearances) (p .labels) (p .clearances-known) (p .labels-known)) (shows-small 1 (omega arith))
 
 sound-is-table : (m : Mode) (t : List ℕ) → SoundFor m t → isTable t ≡ true
 unfolding SoundFor
@@ -107,121 +113,77 @@ made-table d m p =
 
 -- ---- set-up lines
 
--- an outcome for a list that shows its answer and keeps the list's length
-abbrev Keeps : List ℕ → Outcome (List ℕ) → Type 0
-Keeps l o = (shows (o .answer) ≡ true) × (length (o .state) ≡ length l)
-
-keeps-choice : (b : Bool) (l : List ℕ) (i v : ℕ) → Keeps l (if_then_else_ (not b) (refuse 19 l) (accept (set l i v)))
-unfolding if_then_else_ shows _or_
-keeps-choice true l i v = (refl, length-set l i v)
-keeps-choice false l i v = (refl, refl)
-
-added-keeps : (l : List ℕ) (last i v : ℕ) → Keeps l (added l last i v)
+added-shown : (l : List ℕ) (last i v : ℕ) → (shows (added l last i v .answer) ≡ true) × (length (added l last i v .state) ≡ length l)
 unfolding added
-added-keeps l last i v = keeps-choice (leb i last and leb v 63) l i _
+added-shown l last i v =
+    by-if (λ (o : Outcome (List ℕ)). (shows (o .answer) ≡ true) × (length (o .state) ≡ length l)) _
+    (λ e. (listed .4, refl)) (λ e. (shows-small 1 (omega arith), length-set l i _))
 
-stored-keeps : (l : List ℕ) (i v : ℕ) → Keeps l (stored l i v)
+-- a list of labels as it should be
+abbrev Labelled : List ℕ → Type 0
+Labelled l = (length l ≡ 64) × (areLabels l ≡ true)
+
+-- it stays one
+set-labels : (l : List ℕ) (i v : ℕ) → Labelled l → i ≤ 63 → v ≤ 31 → Labelled (set l i v)
+set-labels l i v k hi hv = (
+  length-set l i v ∙ k .0,
+  labels-intro _ (λ j h. by-truth (eqb j i)
+      (λ e. rw (eqb-true j i e, getD-set-same l i v 0 (omega (arith, k .0))) (omega arith))
+      (λ e. rw (getD-set-other l i j v 0 (eqb-false j i e)) (labels-elim l (k .1) j h))),
+)
+
+stored-shown : (l : List ℕ) (i v : ℕ) → Labelled l → (shows (stored l i v .answer) ≡ true) × Labelled (stored l i v .state)
 unfolding stored
-stored-keeps l i v = keeps-choice (leb i 63 and leb v 31) l i v
-
--- a list of labels stays one
-set-labels : (l : List ℕ) (i v : ℕ) → length l ≡ 64 → i ≤ 63 → v ≤ 31 → areLabels l ≡ true → areLabels (set l i v) ≡ true
-unfolding areLabels
-set-labels l i v n hi hv a = all-intro _ 64 (λ j h. by-truth (eqb j i)
-    (λ e.
-    let p = eqb-true j i e in
-    ap (λ (k : ℕ). ltb (getD (set l i v) k 0) 32) p ∙ ap (λ (x : ℕ). ltb x 32) (getD-set-same l i v 0 (omega arith)) ∙ lt-ltb v 32 (omega arith))
-    (λ e. ap (λ (x : ℕ). ltb x 32) (getD-set-other l i j v 0 (eqb-false j i e)) ∙ all-elim _ 64 a j h))
-
-stored-labels : (l : List ℕ) (i v : ℕ) → length l ≡ 64 → areLabels l ≡ true → areLabels (stored l i v .state) ≡ true
-unfolding stored
-stored-labels l i v n a =
+stored-shown l i v k =
     by-truth (leb i 63 and leb v 31)
-    (λ b. ap (λ (o : Outcome (List ℕ)). areLabels (o .state)) (past _ _ b)
-    ∙ set-labels l i v n (leb-true i 63 (and-left _ _ b)) (leb-true v 31 (and-right (leb i 63) _ b)) a)
-    (λ b. ap (λ (o : Outcome (List ℕ)). areLabels (o .state)) (stopped _ _ b) ∙ a)
+    (λ b. rw (past (refuse 19 l) (accept (set l i v)) b) (shows-small 1 (omega arith), set-labels l i v k (leb-true i 63 (and-left _ _ b)) (leb-true v 31 (and-right (leb i 63) _ b))))
+    (λ b. rw (stopped (refuse 19 l) (accept (set l i v)) b) (listed .4, k))
 
 -- ---- what is due
 
 abbrev Shown : Outcome Store → Type 0
 Shown o = (shows (o .answer) ≡ true) × Proper (o .state)
 
-with-table : (d : Store) (ph : Phase) (t : List ℕ) → Proper d → isTable t ≡ true → Proper (withPhase (withTable d t) ph)
-with-table d ph t p i = record {
-  table = i;
-  juniors = p .juniors;
-  permissions = p .permissions;
-  clearances = p .clearances;
-  labels = p .labels;
-  clearances-known = p .clearances-known;
-  labels-known = p .labels-known;
+proper : (d : Store) → isTable (d .table) ≡ true → length (d .juniors) ≡ 64 → length (d .permissions) ≡ 8 → Labelled (d .clearances) → Labelled (d .labels) → Proper d
+proper d t j p c l = record {
+  table = t;
+  juniors = j;
+  permissions = p;
+  clearances = c .0;
+  labels = l .0;
+  clearances-known = c .1;
+  labels-known = l .1;
 }
 
-put-shown : (d : Store) (s : Setting) (a b : ℕ) → Proper d → Shown (put d s a b)
-unfolding put lifted
-put-shown d Juniors a b p =
-    let k = added-keeps (d .juniors) 63 a b in (
-      k .0,
-      record {
-        table = p .table;
-        juniors = k .1 ∙ p .juniors;
-        permissions = p .permissions;
-        clearances = p .clearances;
-        labels = p .labels;
-        clearances-known = p .clearances-known;
-        labels-known = p .labels-known;
-      },
-    )
-put-shown d Permissions a b p =
-    let k = added-keeps (d .permissions) 7 a b in (
-      k .0,
-      record {
-        table = p .table;
-        juniors = p .juniors;
-        permissions = k .1 ∙ p .permissions;
-        clearances = p .clearances;
-        labels = p .labels;
-        clearances-known = p .clearances-known;
-        labels-known = p .labels-known;
-      },
-    )
-put-shown d Clearances a b p =
-    let k = stored-keeps (d .clearances) a b in (
-      k .0,
-      record {
-        table = p .table;
-        juniors = p .juniors;
-        permissions = p .permissions;
-        clearances = k .1 ∙ p .clearances;
-        labels = p .labels;
-        clearances-known = stored-labels (d .clearances) a b (p .clearances) (p .clearances-known);
-        labels-known = p .labels-known;
-      },
-    )
-put-shown d Labels a b p =
-    let k = stored-keeps (d .labels) a b in (
-      k .0,
-      record {
-        table = p .table;
-        juniors = p .juniors;
-        permissions = p .permissions;
-        clearances = p .clearances;
-        labels = k .1 ∙ p .labels;
-        clearances-known = p .clearances-known;
-        labels-known = stored-labels (d .labels) a b (p .labels) (p .labels-known);
-      },
-    )
+module _ (d : Store) (p : Proper d) where
+  with-table : (ph : Phase) (t : List ℕ) → isTable t ≡ true → Proper (withPhase (withTable d t) ph)
+  with-table ph t i = proper _ i (p .juniors) (p .permissions) (p .clearances, p .clearances-known) (p .labels, p .labels-known)
+
+  put-shown : (s : Setting) (a b : ℕ) → Shown (put d s a b)
+  unfolding put lifted
+  put-shown Juniors a b =
+      let k = added-shown (d .juniors) 63 a b in
+      (k .0, proper _ (p .table) (k .1 ∙ p .juniors) (p .permissions) (p .clearances, p .clearances-known) (p .labels, p .labels-known))
+  put-shown Permissions a b =
+      let k = added-shown (d .permissions) 7 a b in
+      (k .0, proper _ (p .table) (p .juniors) (k .1 ∙ p .permissions) (p .clearances, p .clearances-known) (p .labels, p .labels-known))
+  put-shown Clearances a b =
+      let k = stored-shown (d .clearances) a b (p .clearances, p .clearances-known) in
+      (k .0, proper _ (p .table) (p .juniors) (p .permissions) (k .1) (p .labels, p .labels-known))
+  put-shown Labels a b =
+      let k = stored-shown (d .labels) a b (p .labels, p .labels-known) in
+      (k .0, proper _ (p .table) (p .juniors) (p .permissions) (p .clearances, p .clearances-known) (k .1))
 
 due-shown : (d : Store) (x : Due) → StoreSound d → Proper d → Fits (d .phase) x → Shown (performed guarded d x)
 unfolding performed lifted ran SoundIn
 due-shown d (Refuse f) s p t = (shows-fault f, p)
-due-shown d (Choose m) s p t = (shows-small 1 (omega arith), with-table d (SettingUp m) (d .table) p (p .table))
-due-shown d (Put l i v) s p t = put-shown d l i v p
-due-shown d (SetUp m) s p t = (made-shows d m p, with-table d _ _ p (made-table d m p))
+due-shown d (Choose m) s p t = (shows-small 1 (omega arith), with-table d p (SettingUp m) (d .table) (p .table))
+due-shown d (Put l i v) s p t = put-shown d p l i v
+due-shown d (SetUp m) s p t = (made-shows d m p, with-table d p _ _ (made-table d m p))
 due-shown d (Request m code a b c) s p t =
     let r : SoundFor m (d .table) = rw (t .0) at s in
     let q = ask code a b c in
-    (asked-shows m (d .table) q r (t .1) (t .2), with-table d (d .phase) _ p (sound-is-table m _ (asked-sound m (d .table) q r)))
+    (asked-shows m (d .table) q r (t .1) (t .2), with-table d p (d .phase) _ (sound-is-table m _ (asked-sound m (d .table) q r)))
 
 pub line-shows : LineShows
 unfolding step

@@ -1,7 +1,7 @@
 -- What the code need not be told: a role request answered yes or no spends 1, and everything else of roles mode 0. Assumes nothing.
 use Prim.Native.Nat.{ℕ, _<_, _≤_}
 use mathlib.Core.Path.{_≡_, refl, sym, ap, _∙_}
-use mathlib.Core.Bool.{Bool, true, false}
+use mathlib.Core.Bool.{Bool}
 use mathlib.Core.List.{List}
 use native.Mathlib.Omega.{arith}
 use lib.Dec.{eqb}
@@ -14,6 +14,7 @@ use Rattle.table.specs.Reading.{state}
 use Rattle.requests.specs.Request.{Ask, Outcome, refuse, decide, accept}
 use Rattle.rbac.specs.Roles.{isCode, inRange, carriesBadPair, decode, known}
 use Rattle.rbac.specs.Guard.{allowedSound, changedSound, soundStep}
+use Rattle.requests.proofs.Outcome.{decide-yes, decide-no}
 use Rattle.rbac.proofs.Serving.{served-known, served-unknown}
 use Rattle.rbac.proofs.Guarding.{checked-code, checked-argument, checked-pair, sound-step-table, sound-step-short, sound-step-served}
 use Rattle.closure.specs.Closure.{closure, acyclic}
@@ -42,26 +43,23 @@ module _ (t : List ℕ) (q : Ask) where
       (λ c. f 15 (omega arith) (e ∙ checked-code allowedSound changedSound t q c)))
       (λ i. f 12 (omega arith) (sound-step-short t q i))
 
--- what an outcome that is a refusal, or a yes or no, spends
-refused-spends : {o : Outcome (List ℕ)} (n : ℕ) (t : List ℕ) → 1 < n → o ≡ refuse n t → (o .spent ≡ 0) × (1 < o .answer)
-refused-spends n t h e = rw e (refl, h)
+-- a yes or no answers 1 or 0
+pub decided-small : {o : Outcome (List ℕ)} (b : Bool) (y n : ℕ) (new old : List ℕ) → o ≡ decide b y n new old → o .answer ≤ 1
+decided-small b y n new old e =
+    by-truth b (λ p. rw (e ∙ decide-yes y n new old p) (omega arith)) (λ p. rw (e ∙ decide-no y n new old p) (omega arith))
 
-decided-spends : {o : Outcome (List ℕ)} (b : Bool) (new t : List ℕ) → o ≡ decide b 1 1 new t → (o .spent ≡ 1) × (o .answer ≤ 1)
-unfolding decide
-decided-spends true new t e = rw e (refl, omega arith)
-decided-spends false new t e = rw e (refl, omega arith)
+-- what an outcome that another equals spends
+pub spends : {o o′ : Outcome (List ℕ)} → o ≡ o′ → o′ .spent ≡ o .spent
+spends e = sym (ap (λ (p : Outcome (List ℕ)). p .spent) e)
 
 pub refused-role : (t : List ℕ) (q : Ask) → 1 < soundStep t q .answer → 0 ≡ soundStep t q .spent
-refused-role t q h =
-    by-served t q
-    (λ n k e. sym (refused-spends n t k e .0))
-    (λ b new e. let d = decided-spends b new t e in absurd (omega (arith, d .1)))
+refused-role t q h = by-served t q (λ n k e. spends e) (λ b new e. absurd (omega (arith, decided-small b 1 1 new t e)))
 
 pub answered-role : (t : List ℕ) (q : Ask) → soundStep t q .answer ≤ 1 → 1 ≡ soundStep t q .spent
 answered-role t q h =
     by-served t q
-    (λ n k e. let d = refused-spends n t k e in absurd (omega (arith, d .1)))
-    (λ b new e. sym (decided-spends b new t e .0))
+    (λ n k e. absurd (omega (arith, ap (λ (o : Outcome (List ℕ)). o .answer) e)))
+    (λ b new e. by-truth b (λ p. spends (e ∙ decide-yes 1 1 new t p)) (λ p. spends (e ∙ decide-no 1 1 new t p)))
 
 -- ---- the role set-up
 
@@ -83,6 +81,3 @@ module _ (t u juniors permissions : List ℕ) (same : isTable t ≡ isTable u) w
 
 pub set-up-spends : (t juniors permissions : List ℕ) → 0 ≡ roleSetUp t juniors permissions .spent
 set-up-spends t juniors permissions = by-set-up t t juniors permissions refl (λ n k e f. spends e) (λ new e f. spends e)
-  where
-    spends : {o o′ : Outcome (List ℕ)} → o ≡ o′ → o′ .spent ≡ o .spent
-    spends e = sym (ap (λ (p : Outcome (List ℕ)). p .spent) e)

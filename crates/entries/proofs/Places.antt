@@ -2,25 +2,25 @@
 -- request only behind it, with a code of its mode. Assumes nothing.
 use Prim.Native.Nat.{ℕ, _≤_}
 use mathlib.Core.Path.{_≡_, refl}
-use mathlib.Core.Bool.{Bool, true, false}
 use native.Mathlib.Omega.{arith}
 use lib.Dec.{eqb}
-use Rattle.bits.specs.Words.{if_then_else_}
+use Rattle.bits.proofs.Truth.{by-if}
 use Rattle.lines.specs.declared.Word.{Word}
 use Rattle.lines.specs.declared.Word.the-variants.{Roles, Lattice, Above, Permit, Clear, Label, Run, Open, Close, Start, End, Activate, Drop, Assign, Deassign, Grant, Revoke, Reclear}
 use Rattle.lines.specs.declared.Line.{Line}
 use Rattle.lines.specs.declared.Line.the-variants.{Read, Refused}
 use Rattle.entries.specs.Words.{taking, roleItem, latticeItem, modeItem, itemIn, numbersOf, dueIn, dueOf}
 use Rattle.entries.specs.declared.Mode.{Mode}
 use Rattle.entries.specs.declared.Mode.the-variants.{RoleMode, LatticeMode}
 use Rattle.entries.specs.declared.Phase.{Phase}
 use Rattle.entries.specs.declared.Phase.the-variants.{Opening, SettingUp, Running}
 use Rattle.entries.specs.declared.Setting.the-variants.{Juniors, Permissions, Clearances, Labels}
 use Rattle.entries.specs.declared.Item.{Item}
 use Rattle.entries.specs.declared.Item.the-variants.{Malformed, Chooses, Sets, Runs, Asks}
+use Rattle.entries.specs.declared.Fault.the-variants.{WrongForm}
 use Rattle.entries.specs.declared.Due.{Due}
 use Rattle.entries.specs.declared.Due.the-variants.{Refuse, Choose, Put, SetUp, Request}
 use Rattle.entries.specs.declared.Numbers.{Numbers}
 
 -- ---- codes
 
@@ -37,12 +37,8 @@ Coded m Runs = Unit {0}
 Coded m (Asks code) = (1 ≤ code) × (code ≤ most m)
 
 taking-coded : (m : Mode) (k n : ℕ) (i : Item) → Coded m i → Coded m (taking k i n)
-unfolding taking if_then_else_
-taking-coded m k n i h = go (eqb n k)
-  where
-    go : (t : Bool) → Coded m (if_then_else_ t i Malformed)
-    go true = h
-    go false = tt
+unfolding taking
+taking-coded m k n i h = by-if (Coded m) (eqb n k) (λ e. h) (λ e. tt)
 
 asks-coded : (m : Mode) (k code n : ℕ) → 1 ≤ code → code ≤ most m → Coded m (taking k (Asks code) n)
 asks-coded m k code n l h = taking-coded m k n (Asks code) (l, h)
@@ -135,3 +131,8 @@ due-fits Opening (Read w fs) = fits-opening (roleItem w (numbersOf fs .count)) (
 due-fits (SettingUp m) (Read w fs) = fits-setting m (modeItem m w (numbersOf fs .count)) (numbersOf fs)
 due-fits (Running m) (Read w fs) =
     fits-running m (modeItem m w (numbersOf fs .count)) (numbersOf fs) (mode-coded m w (numbersOf fs .count))
+
+-- a line that was refused is refused for its form, wherever it stands
+pub due-refused : (p : Phase) → dueOf p Refused ≡ Refuse WrongForm
+unfolding dueOf
+due-refused p = refl
