@@ -1,16 +1,12 @@
 -- Where blocks of input lead, one after the other. Assumes nothing.
 use mathlib.Core.Path.{_≡_, refl, sym, ap, _∙_}
 use mathlib.Core.Bool.{Bool, true, false}
-use mathlib.Core.List.{List, [], _∷_, _++_}
-use Prim.Native.Nat.{ℕ, zero, suc}
-use lib.ListN.{replicate}
+use mathlib.Core.List.{List, [], _++_}
+use Prim.Native.Nat.{ℕ}
 use Rattle.bits.proofs.Truth.{clash}
-use Rattle.bits.specs.Words.{tabulate}
-use Rattle.table.specs.Table.{tableLength}
 use Rattle.ledger.specs.Step.{unguarded}
 use Rattle.transcript.specs.declared.Progress.{Progress}
-use Rattle.transcript.specs.Stream.{Standing, standing, started, after}
-use Rattle.transcript.specs.Document.{blank}
+use Rattle.transcript.specs.Stream.{Standing, standing, after}
 use Rattle.transcript.proofs.Pieces.{after-none, after-append}
 use Rattle.guard.specs.Block.{Behind, beginning, Led}
 
@@ -20,19 +16,6 @@ block-unwritten = record { stands-is = λ e. clash e refl }
 
 pub unwritten : {p : Standing} → Led false p
 unwritten = record { input = []; stands-is = λ e. clash e refl }
-
--- an array of zeros
-pub zeros : (n : ℕ) → replicate {A = ℕ} n 0 ≡ tabulate n (λ i. 0)
-unfolding tabulate
-zeros zero = refl
-zeros (suc n) = ap (λ (l : List ℕ). 0 ∷ l) (zeros n)
-
--- before the first byte
-pub at-first : {table juniors permissions clearances labels : List ℕ} → table ≡ tabulate tableLength (λ i. 0) → juniors ≡ tabulate 64 (λ r. 0)
-    → permissions ≡ tabulate 8 (λ x. 0) → clearances ≡ tabulate 64 (λ u. 0) → labels ≡ tabulate 64 (λ o. 0)
-    → standing started table juniors permissions clearances labels ≡ beginning
-unfolding blank
-at-first t j p c l = rw (t, j, p, c, l)
 
 -- no block
 pub led-none : {p q : Progress} {table juniors permissions clearances labels : List ℕ}

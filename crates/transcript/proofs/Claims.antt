@@ -4,24 +4,24 @@ use mathlib.Core.Path.{_≡_, refl, sym, ap, ap₂, _∙_}
 use mathlib.Core.Bool.{true}
 use mathlib.Core.Logic.{⊎-elim}
 use mathlib.Core.List.{List, [], _∷_, _++_, append-assoc, List·Memᴰ, List·Memᴰ·cases-cons, List·Memᴰ·not-nil}
-use lib.Dec.{ltb}
+use native.Mathlib.Omega.{arith}
 use lib.ListN.{drop}
-use Rattle.bits.proofs.Below.{all-intro}
 use Rattle.bits.specs.Words.{tabulate}
 use Rattle.table.specs.Table.{tableLength, isTable}
 use Rattle.table.proofs.Table.{is-table}
 use Rattle.bits.proofs.Tabulate.{length-tabulate, getD-tabulate}
 use Rattle.image.specs.SetUp.{areLabels}
-use Rattle.lines.specs.Reader.{steps}
+use Rattle.lines.specs.declared.Reader.the-variants.{Letters}
+use Rattle.lines.proofs.Resume.{steps-none}
 use Rattle.lines.specs.declared.Line.{Line}
 use Rattle.output.specs.Text.{header}
 use Rattle.ledger.specs.Store.{Store, withTable}
 use Rattle.ledger.specs.Step.{guarded, unguarded, step}
-use Rattle.ledger.specs.Claims.{SoundIn, StoreSound, shows, Proper}
-use Rattle.ledger.proofs.Claims.{stays-sound}
-use Rattle.ledger.proofs.Showing.{line-shows}
+use Rattle.ledger.specs.Claims.{StoreSound, shows, Proper}
+use Rattle.ledger.proofs.Claims.{opening-sound, stays-sound}
+use Rattle.ledger.proofs.Showing.{labels-intro, line-shows}
 use Rattle.ledger.proofs.Contents.{SameIn, line-matches}
-use Rattle.transcript.specs.Stream.{Standing, after, emitted, closing, serving}
+use Rattle.transcript.specs.Stream.{Standing, standing, started, after, emitted, closing, serving}
 use Rattle.transcript.specs.Document.{Result, linesOf, results, rows, blank, replies, output}
 use Rattle.transcript.specs.Claims.{begun, OutputIs, Calls, none, call, BlocksDoNotMatter, NeverShown, SoundForGood}
 use Rattle.transcript.proofs.Pieces.{after-append, emitted-append, serving-splits}
@@ -38,13 +38,19 @@ zeros-table : isTable zeros ≡ true
 zeros-table = is-table zeros (length-tabulate tableLength (λ i. 0))
 
 blank-sound : (table : List ℕ) → StoreSound (blank table)
-unfolding blank SoundIn
-blank-sound table = tt
+unfolding blank
+blank-sound table = opening-sound table
+
+-- what the program starts from
+pub begun-is : {table juniors permissions clearances labels : List ℕ} → table ≡ zeros → juniors ≡ tabulate 64 (λ r. 0)
+    → permissions ≡ tabulate 8 (λ x. 0) → clearances ≡ tabulate 64 (λ u. 0) → labels ≡ tabulate 64 (λ o. 0)
+    → standing started table juniors permissions clearances labels ≡ begun zeros
+unfolding blank
+begun-is t j p c l = rw (t, j, p, c, l)
 
 -- zeros are labels
 zeros-labels : areLabels (tabulate 64 (λ i. 0)) ≡ true
-unfolding areLabels
-zeros-labels = all-intro _ 64 (λ i h. ap (λ (v : ℕ). ltb v 32) (getD-tabulate 64 (λ i. 0) 0 i h))
+zeros-labels = labels-intro _ (λ i h. rw (getD-tabulate {A = ℕ} 64 (λ i. 0) 0 i h) (omega arith))
 
 blank-proper : Proper (blank zeros)
 unfolding blank
@@ -71,13 +77,13 @@ results-same d u (l ∷ ls) h =
     (results-same (step guarded d l .state) (next .table) ls (m .tables) ∙ ap (λ (e : Store). results e ls) (sym (m .stores)))
 
 pub output-is : OutputIs
-unfolding output replies blank steps
+unfolding output replies blank
 output-is table l h =
     let a = agrees (begun table) l (blank-sound table) in
     ap₂ (λ (s : Standing) (w : List ℕ). header ++ w ++ closing (s .number) (s .reader)) (a .0) (a .1)
     ∙ append-assoc header _ _
     ∙ ap (λ (w : List ℕ). header ++ w)
-    (written-is (blank table) 1 [] l ∙ ap (rows 1) (results-same (blank table) zeros (linesOf [] l) (h ∙ sym zeros-table)))
+    (rw (steps-none (Letters 0)) at (written-is (blank table) 1 [] l) ∙ ap (rows 1) (results-same (blank table) zeros (linesOf [] l) (h ∙ sym zeros-table)))
 
 -- ---- blocks
 

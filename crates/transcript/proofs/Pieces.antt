@@ -1,25 +1,20 @@
 -- Bytes in pieces: what a block comes to is what was served of it, and then what is left. Assumes nothing.
-use Prim.Native.Nat.{ℕ, zero, suc, _+_, _-_, _≤_}
+use Prim.Native.Nat.{ℕ, suc, _+_, _-_, _≤_}
 use mathlib.Core.Path.{_≡_, refl, sym, ap, ap₂, _∙_}
 use mathlib.Core.Bool.{Bool, true, false}
 use mathlib.Core.List.{List, [], _∷_, _++_, append-assoc}
-use native.Mathlib.Nat.{le-of-suc-le-suc}
 use native.Mathlib.Omega.{arith}
 use lib.Dec.{eqb}
-use lib.ListN.{length, drop}
-use lib.Seq.{drop-nil, drop-drop}
-use Rattle.bits.specs.Words.{_and_, if_then_else_}
+use lib.ListN.{length, drop, drop-of-length-le}
+use lib.Seq.{drop-drop}
+use Rattle.bits.specs.Words.{_and_}
+use Rattle.bits.proofs.Truth.{by-truth, if-true, if-false}
 use Rattle.lines.specs.Reader.{stepOf}
 use Rattle.ledger.specs.Step.{Guards}
-use Rattle.transcript.specs.Stream.{Standing, reading, replied, reply, after, emitted, Stop, halt, ahead, full, serving, IsServed}
+use Rattle.transcript.specs.Stream.{Standing, reading, replied, reply, after, emitted, Stop, full, serving, IsServed}
 
 drop-one : (n b : ℕ) (l : List ℕ) → drop n l ≡ drop (1 + n) (b ∷ l)
 drop-one n b l = let e : suc n ≡ 1 + n = omega arith in ap (λ (k : ℕ). drop k (b ∷ l)) e
-
-drop-past : (l : List ℕ) (n : ℕ) → length l ≤ n → drop n l ≡ []
-drop-past [] n h = drop-nil n
-drop-past (b ∷ l) zero h = absurd (omega arith)
-drop-past (b ∷ l) (suc n) h = drop-past l n (le-of-suc-le-suc h)
 
 module _ (G : Guards) where
   pub after-append : (p : Standing) (l m : List ℕ) → after G p (l ++ m) ≡ after G (after G p l) m
@@ -28,46 +23,38 @@ module _ (G : Guards) where
   after-append p (b ∷ l) m = after-append _ l m
 
   pub emitted-append : (p : Standing) (l m : List ℕ) → emitted G p (l ++ m) ≡ emitted G p l ++ emitted G (after G p l) m
-  unfolding after emitted if_then_else_
+  unfolding after emitted
   emitted-append p [] m = refl
-  emitted-append p (b ∷ l) m = go (eqb b 10) (emitted-append (replied G p (p .reader)) l m) (emitted-append (reading p (stepOf (p .reader) b)) l m)
-    where
-      go : (t : Bool)
-          → emitted G (replied G p (p .reader)) (l ++ m) ≡ emitted G (replied G p (p .reader)) l ++ emitted G (after G (replied G p (p .reader)) l) m
-          → emitted G (reading p (stepOf (p .reader) b)) (l ++ m) ≡ emitted G (reading p (stepOf (p .reader) b)) l ++ emitted G (after G (reading p (stepOf (p .reader) b)) l) m
-          → if_then_else_ t (reply G p (p .reader) ++ emitted G (replied G p (p .reader)) (l ++ m)) (emitted G (reading p (stepOf (p .reader) b)) (l ++ m))
-          ≡ if_then_else_ t (reply G p (p .reader) ++ emitted G (replied G p (p .reader)) l) (emitted G (reading p (stepOf (p .reader) b)) l)
-          ++ emitted G (after G (if_then_else_ t (replied G p (p .reader)) (reading p (stepOf (p .reader) b))) l) m
-      go true x y = ap (λ (r : List ℕ). reply G p (p .reader) ++ r) x ∙ sym (append-assoc (reply G p (p .reader)) _ _)
-      go false x y = y
+  emitted-append p (b ∷ l) m =
+      by-truth (eqb b 10)
+      (λ e. simp if-true (ap (λ (r : List ℕ). reply G p (p .reader) ++ r) (emitted-append (replied G p (p .reader)) l m) ∙ sym (append-assoc (reply G p (p .reader)) _ _)))
+      (λ e. simp if-false (emitted-append (reading p (stepOf (p .reader) b)) l m))
 
   -- where bytes l lead to and what they write, from what was served of them
   abbrev Splits : Standing → List ℕ → List ℕ → Stop → Type 0
   Splits stands writes l s = (stands ≡ after G (s .stands) (drop (s .read) l)) × (writes ≡ s .wrote ++ emitted G (s .stands) (drop (s .read) l))
 
   pub serving-splits : (room : ℕ) (between : Bool) (p : Standing) (l : List ℕ) → Splits (after G p l) (emitted G p l) l (serving G room between p l)
-  unfolding after emitted serving if_then_else_
+  unfolding after emitted serving
   serving-splits room between p [] = (refl, refl)
   serving-splits room between p (b ∷ l) =
-      go (between and full room (p .number)) (eqb b 10) refl _ _
-      (serving-splits (room - length (reply G p (p .reader))) true (replied G p (p .reader)) l) (serving-splits room false (reading p (stepOf (p .reader) b)) l)
-    where
-      go : (u t : Bool) → eqb b 10 ≡ t → (line byte : Stop)
-          → Splits (after G (replied G p (p .reader)) l) (emitted G (replied G p (p .reader)) l) l line
-          → Splits (after G (reading p (stepOf (p .reader) b)) l) (emitted G (reading p (stepOf (p .reader) b)) l) l byte
-          → Splits (after G (if_then_else_ t (replied G p (p .reader)) (reading p (stepOf (p .reader) b))) l)
-          (if_then_else_ t (reply G p (p .reader) ++ emitted G (replied G p (p .reader)) l) (emitted G (reading p (stepOf (p .reader) b)) l)) (b ∷ l)
-          (if_then_else_ u (halt p) (if_then_else_ t (ahead 1 (reply G p (p .reader)) line) (ahead 1 [] byte)))
-      go true t e line byte x y = rw e (refl, refl)
-      go false true e line byte x y = (
+      by-truth (between and full room (p .number)) (λ u. simp if-true (refl, refl))
+      (λ u. by-truth (eqb b 10)
+      (λ e.
+      let line = serving G (room - length (reply G p (p .reader))) true (replied G p (p .reader)) l in
+      let x = serving-splits (room - length (reply G p (p .reader))) true (replied G p (p .reader)) l in
+      simp (if-true, if-false) (
         x .0 ∙ ap (after G (line .stands)) (drop-one (line .read) b l),
         ap (λ (w : List ℕ). reply G p (p .reader) ++ w) (x .1 ∙ ap (λ (m : List ℕ). line .wrote ++ emitted G (line .stands) m) (drop-one (line .read) b l))
             ∙ sym (append-assoc (reply G p (p .reader)) _ _),
-      )
-      go false false e line byte x y = (
+      ))
+      (λ e.
+      let byte = serving G room false (reading p (stepOf (p .reader) b)) l in
+      let y = serving-splits room false (reading p (stepOf (p .reader) b)) l in
+      simp if-false (
         y .0 ∙ ap (after G (byte .stands)) (drop-one (byte .read) b l),
         y .1 ∙ ap (λ (m : List ℕ). byte .wrote ++ emitted G (byte .stands) m) (drop-one (byte .read) b l),
-      )
+      )))
 
   -- a block served from a place on leads where its bytes from that place lead
   pub served-on : (room : ℕ) (p q : Standing) (block out out′ : List ℕ) (at next used : ℕ)
@@ -83,4 +70,4 @@ module _ (G : Guards) where
   after-none p = refl
 
   pub at-end : (p : Standing) (block : List ℕ) (at : ℕ) → length block ≤ at → after G p (drop at block) ≡ p
-  at-end p block at h = ap (after G p) (drop-past block at h) ∙ after-none p
+  at-end p block at h = ap (after G p) (drop-of-length-le block h) ∙ after-none p

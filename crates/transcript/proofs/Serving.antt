@@ -1,235 +1,97 @@
--- What the bytes of a block up to a newline, or up to its end, come to, and what the code has done when its loop is at a
--- place of the block. Assumes nothing.
+-- What the bytes of a block up to a newline, or up to its end, come to, and what the end of the input does. Assumes nothing.
 use Prim.Native.Nat.{ℕ, suc, _+_, _-_, _^_, _≤_, _<_}
 use mathlib.Core.Path.{_≡_, refl, sym, ap, ap₂, _∙_}
-use mathlib.Core.Bool.{Bool, true, false}
-use mathlib.Core.List.{List, [], _∷_, _++_, append-nil, append-assoc}
+use mathlib.Core.Bool.{true, false}
+use mathlib.Core.List.{List, [], _∷_, _++_, append-assoc}
 use native.Mathlib.Omega.{arith}
 use lib.Dec.{eqb, ltb}
-use lib.ListN.{length, drop, length-drop, length-append, drop-of-length-le}
-use lib.Seq.{sets, drop-drop}
+use lib.ListN.{length, drop}
 use borrow.Author.Tests.{eq-eqb, ne-eqb, lt-ltb, le-ltb}
-use Rattle.bits.specs.Words.{_and_, if_then_else_}
-use Rattle.bits.proofs.Truth.{clash, if-true, if-false, or-left, or-right, false-or}
-use Rattle.requests.specs.Request.{Outcome}
-use Rattle.lines.specs.Reader.{stepOf, finished, fresh, fed}
-use Rattle.lines.specs.declared.Line.{Line}
+use Rattle.bits.proofs.Truth.{clash, by-truth, and-intro, and-false, false-and, or-left, or-right, false-or, if-true, if-false}
+use Rattle.lines.specs.Reader.{stepOf, fresh, fed}
 use Rattle.lines.specs.declared.Reader.{Reader}
-use Rattle.lines.specs.declared.Reader.the-variants.{Letters}
 use Rattle.lines.specs.declared.Fed.{Fed}
-use Rattle.output.specs.Text.{row, rowRoom, fitting, Wrote}
-use Rattle.output.proofs.Writing.{length-row, wrote-row, sets-append}
+use Rattle.lines.proofs.Going.{fed-none, fed-line, fed-byte}
+use Rattle.output.specs.Text.{row, rowRoom}
 use Rattle.entries.specs.declared.Fault.the-variants.{WrongForm}
 use Rattle.entries.specs.Words.{faultNumber}
-use Rattle.ledger.specs.Store.{Store}
-use Rattle.ledger.specs.Step.{Guards, outcome, step}
-use Rattle.transcript.specs.Stream.{Standing, reading, replied, reply, closing, Stop, halt, ahead, full, serving, IsServed}
+use Rattle.ledger.specs.Step.{Guards}
+use Rattle.transcript.specs.Stream.{Standing, reading, replied, reply, closing, Stop, halt, ahead, full, serving}
+
+-- one stretch behind the other
+pub ahead-more : (j k : ℕ) (w v : List ℕ) (s : Stop) → ahead j w (ahead k v s) ≡ ahead (j + k) (w ++ v) s
+ahead-more j k w v s = ap₂ (λ (n : ℕ) (u : List ℕ). record { stands = s .stands; read = n; wrote = u }) (omega arith) (sym (append-assoc w v (s .wrote)))
 
 -- ---- where it stops
 
-full-room : (room number : ℕ) → room < rowRoom → full room number ≡ true
+pub full-room : (room number : ℕ) → room < rowRoom → full room number ≡ true
 unfolding full
 full-room room number h = or-left _ (lt-ltb room rowRoom h)
 
-full-number : (room number : ℕ) → number ≡ 2 ^ 64 - 1 → full room number ≡ true
+pub full-number : (room number : ℕ) → number ≡ 2 ^ 64 - 1 → full room number ≡ true
 unfolding full
 full-number room number e = or-right (ltb room rowRoom) (eq-eqb number (2 ^ 64 - 1) e)
 
-not-full : (room number : ℕ) → rowRoom ≤ room → (number ≡ 2 ^ 64 - 1 → ⊥) → full room number ≡ false
+pub not-full : (room number : ℕ) → rowRoom ≤ room → (number ≡ 2 ^ 64 - 1 → ⊥) → full room number ≡ false
 unfolding full
 not-full room number h n = false-or _ (le-ltb room rowRoom h) ∙ ne-eqb number (2 ^ 64 - 1) n
 
 module _ (G : Guards) (room : ℕ) where
-  serving-full : (p : Standing) (l : List ℕ) → full room (p .number) ≡ true → serving G room true p l ≡ halt p
-  unfolding serving _and_
+  pub serving-full : (p : Standing) (l : List ℕ) → full room (p .number) ≡ true → serving G room true p l ≡ halt p
+  unfolding serving
   serving-full p [] h = refl
-  serving-full p (b ∷ l) h = if-true _ _ h
+  serving-full p (b ∷ l) h = if-true _ _ (and-intro refl h)
 
-  serving-open : (p : Standing) (l : List ℕ) → full room (p .number) ≡ false → serving G room true p l ≡ serving G room false p l
-  unfolding serving _and_ if_then_else_
+  pub serving-open : (p : Standing) (l : List ℕ) → full room (p .number) ≡ false → serving G room true p l ≡ serving G room false p l
+  unfolding serving
   serving-open p [] h = refl
-  serving-open p (b ∷ l) h = if-false _ _ h
+  serving-open p (b ∷ l) h = if-false _ _ (and-false true h) ∙ sym (if-false _ _ (false-and _ refl))
 
   -- ---- no newline
 
-  serving-used : (p : Standing) (l : List ℕ) (at : ℕ) → fed (p .reader) l at .whole ≡ false
+  serving-byte : (p : Standing) (b : ℕ) (l : List ℕ) → eqb b 10 ≡ false → serving G room false p (b ∷ l) ≡ ahead 1 [] (serving G room false (reading p (stepOf (p .reader) b)) l)
+  unfolding serving
+  serving-byte p b l e = if-false _ _ (false-and _ refl) ∙ if-false _ _ e
+
+  pub serving-used : (p : Standing) (l : List ℕ) (at : ℕ) → fed (p .reader) l at .whole ≡ false
       → serving G room false p l ≡ record { stands = reading p (fed (p .reader) l at .reader); read = length l; wrote = [] }
-  unfolding fed serving _and_ if_then_else_
-  serving-used p [] at h = refl
-  serving-used p (b ∷ l) at h = go (eqb b 10) h (λ k. serving-used (reading p (stepOf (p .reader) b)) l (at + 1) k)
-    where
-      rest : Fed
-      rest = fed (stepOf (p .reader) b) l (at + 1)
-
-      found : Bool → Fed
-      found t = if_then_else_ t (record { whole = true; reader = p .reader; next = at + 1 }) rest
-
-      go : (t : Bool) → found t .whole ≡ false
-          → (rest .whole ≡ false
-          → serving G room false (reading p (stepOf (p .reader) b)) l ≡ record { stands = reading p (rest .reader); read = length l; wrote = [] })
-          → if_then_else_ t (ahead 1 (reply G p (p .reader)) (serving G (room - length (reply G p (p .reader))) true (replied G p (p .reader)) l))
-          (ahead 1 [] (serving G room false (reading p (stepOf (p .reader) b)) l))
-          ≡ record { stands = reading p (found t .reader); read = suc (length l); wrote = [] }
-      go true k ih = clash {b = true} refl k
-      go false k ih =
-          ap (ahead 1 []) (ih k) ∙ ap (λ (n : ℕ). record { stands = reading p (rest .reader); read = n; wrote = [] }) (omega arith)
+  unfolding serving
+  serving-used p [] at h = rw (fed-none (p .reader) at)
+  serving-used p (b ∷ l) at h =
+      by-truth (eqb b 10) (λ e. clash (ap (λ (f : Fed). f .whole) (fed-line (p .reader) b l at e)) h)
+      (λ e.
+      let s = stepOf (p .reader) b in
+      let f = fed-byte (p .reader) b l at e in
+      serving-byte p b l e
+      ∙ ap (ahead 1 []) (serving-used (reading p s) l (at + 1) (sym (ap (λ (g : Fed). g .whole) f) ∙ h))
+      ∙ rw f (ap (λ (n : ℕ). record { stands = reading p (fed s l (at + 1) .reader); read = n; wrote = [] }) (omega arith)))
 
   -- ---- a newline
 
   -- a line ends behind k bytes of l and its newline, with the reader at s
-  abbrev Ends : Stop → Standing → List ℕ → ℕ → Reader → ℕ → Type 0
+  abbrev pub Ends : Stop → Standing → List ℕ → ℕ → Reader → ℕ → Type 0
   Ends stop p l at s next =
       (k : ℕ) × (next ≡ at + suc k) × (suc k ≤ length l)
       × (stop ≡ ahead (suc k) (reply G p s) (serving G (room - length (reply G p s)) true (replied G p s) (drop (suc k) l)))
 
-  serving-line : (p : Standing) (l : List ℕ) (at : ℕ) → fed (p .reader) l at .whole ≡ true
+  pub serving-line : (p : Standing) (l : List ℕ) (at : ℕ) → fed (p .reader) l at .whole ≡ true
       → Ends (serving G room false p l) p l at (fed (p .reader) l at .reader) (fed (p .reader) l at .next)
-  unfolding fed serving _and_ if_then_else_
-  serving-line p [] at h = clash {b = true} refl (sym h)
-  serving-line p (b ∷ l) at h = go (eqb b 10) h (λ k. serving-line (reading p (stepOf (p .reader) b)) l (at + 1) k)
-    where
-      rest : Fed
-      rest = fed (stepOf (p .reader) b) l (at + 1)
-
-      found : Bool → Fed
-      found t = if_then_else_ t (record { whole = true; reader = p .reader; next = at + 1 }) rest
-
-      go : (t : Bool) → found t .whole ≡ true
-          → (rest .whole ≡ true → Ends (serving G room false (reading p (stepOf (p .reader) b)) l) (reading p (stepOf (p .reader) b)) l (at + 1) (rest .reader) (rest .next))
-          → Ends (if_then_else_ t (ahead 1 (reply G p (p .reader)) (serving G (room - length (reply G p (p .reader))) true (replied G p (p .reader)) l))
-          (ahead 1 [] (serving G room false (reading p (stepOf (p .reader) b)) l))) p (b ∷ l) at (found t .reader) (found t .next)
-      go true k ih = (0, refl, omega arith, refl)
-      go false k ih =
-          let w = ih k in (
-            suc (w .0),
-            omega (arith, w .1),
-            omega (arith, w .2),
-            ap (ahead 1 []) (w .3) ∙ ap (λ (n : ℕ). record {
-              stands = serving G (room - length (reply G p (rest .reader))) true (replied G p (rest .reader)) (drop (suc (w .0)) l) .stands;
-              read = n;
-              wrote = reply G p (rest .reader) ++ serving G (room - length (reply G p (rest .reader))) true (replied G p (rest .reader)) (drop (suc (w .0)) l) .wrote;
-            }) (omega arith),
-          )
-
--- ---- how far the loop has come: p stands before byte i of the block, and o bytes of out are written
-
-pub record Far (G : Guards) (stop : Stop) (at : ℕ) (out₀ : List ℕ) (p : Standing) (block : List ℕ) (i : ℕ) (out : List ℕ) (o : ℕ) : Type 0 where
-  pub written : List ℕ
-  pub passed : ℕ
-  pub place : i ≡ at + passed
-  pub out-is : out ≡ sets out₀ 0 written
-  pub used-is : o ≡ length written
-  pub room : o ≤ length out
-  pub rest : stop ≡ ahead passed written (serving G (length out - o) true p (drop i block))
-
-pub far-start : (G : Guards) (p : Standing) (block : List ℕ) (at : ℕ) (out : List ℕ)
-    → Far G (serving G (length out) true p (drop at block)) at out p block at out 0
-far-start G p block at out = record {
-  written = [];
-  passed = 0;
-  place = omega arith;
-  out-is = refl;
-  used-is = refl;
-  room = omega arith;
-  rest = ap (λ (n : ℕ). serving G n true p (drop at block)) (omega arith) ∙ recount-none (serving G (length out - 0) true p (drop at block));
-}
-  where
-    recount-none : (s : Stop) → s ≡ ahead 0 [] s
-    recount-none s = ap (λ (n : ℕ). record { stands = s .stands; read = n; wrote = s .wrote }) (omega arith)
-
-module _ {G : Guards} {stop : Stop} {at : ℕ} {out₀ : List ℕ} {p : Standing} (block : List ℕ) (i : ℕ) {out : List ℕ} {o : ℕ} (far : Far G stop at out₀ p block i out o) where
-  -- it stops where it is
-  halted : serving G (length out - o) true p (drop i block) ≡ halt p → IsServed stop at out₀ p i o out
-  halted h =
-      let e : stop ≡ ahead (far .passed) (far .written) (halt p) = far .rest ∙ ap (ahead (far .passed) (far .written)) h in
-      record {
-        stands-is = sym (ap (λ (s : Stop). s .stands) e);
-        next-is = let n = ap (λ (s : Stop). s .read) e in omega (arith, far .place);
-        used-is = far .used-is ∙ ap length (sym (ap (λ (s : Stop). s .wrote) e ∙ append-nil (far .written)));
-        out-is = far .out-is ∙ ap (sets out₀ 0) (sym (ap (λ (s : Stop). s .wrote) e ∙ append-nil (far .written)));
-        within = far .room;
-      }
-
-  pub far-no-room : length out - o < rowRoom → IsServed stop at out₀ p i o out
-  far-no-room h = halted (serving-full G _ p (drop i block) (full-room _ _ h))
-
-  pub far-no-number : p .number ≡ 2 ^ 64 - 1 → IsServed stop at out₀ p i o out
-  far-no-number h = halted (serving-full G _ p (drop i block) (full-number _ _ h))
-
-  pub far-end : length block ≤ i → IsServed stop at out₀ p i o out
   unfolding serving
-  far-end h = halted (rw (drop-of-length-le block h))
-
-  module _ (space : rowRoom ≤ length out - o) (more : p .number ≡ 2 ^ 64 - 1 → ⊥) where
-    opened : serving G (length out - o) true p (drop i block) ≡ serving G (length out - o) false p (drop i block)
-    opened = serving-open G _ p (drop i block) (not-full _ _ space more)
-
-    -- the block is used up
-    pub far-used : {f : Fed} → i ≤ length block → f ≡ fed (p .reader) (drop i block) i → f .whole ≡ false → IsServed stop at out₀ (reading p (f .reader)) (length block) o out
-    far-used {f} b g h =
-        let cut = serving-used G (length out - o) p (drop i block) i (sym (ap (λ (u : Fed). u .whole) g) ∙ h) in
-        let e = far .rest ∙ ap (ahead (far .passed) (far .written)) (opened ∙ cut ∙ ap (λ (u : Fed). record { stands = reading p (u .reader); read = length (drop i block); wrote = [] }) (sym g)) in
-        let w = ap (λ (u : Stop). u .wrote) e ∙ append-nil (far .written) in
-        record {
-          stands-is = sym (ap (λ (s : Stop). s .stands) e);
-          next-is = let n = ap (λ (s : Stop). s .read) e in omega (arith, far .place, length-drop i block);
-          used-is = far .used-is ∙ ap length (sym w);
-          out-is = far .out-is ∙ ap (sets out₀ 0) (sym w);
-          within = far .room;
-        }
-
-    -- a line ends in the block
-    line-ends : {f : Fed} → f ≡ fed (p .reader) (drop i block) i → f .whole ≡ true
-        → Ends G (length out - o) (serving G (length out - o) false p (drop i block)) p (drop i block) i (f .reader) (f .next)
-    line-ends {f} g h =
-        let here = serving-line G (length out - o) p (drop i block) i (sym (ap (λ (u : Fed). u .whole) g) ∙ h) in
-        rw g here
-
-    -- the next line starts behind this one, in the block
-    pub far-next : {f : Fed} → i ≤ length block → f ≡ fed (p .reader) (drop i block) i → f .whole ≡ true → (i < f .next) × (f .next ≤ length block)
-    far-next {f} b g h =
-        let w = line-ends g h in
-        let left : suc (w .0) ≤ length block - i = rw (length-drop i block) at (w .2) in
-        (omega (arith, w .1), omega (arith, w .1, left))
-
-    -- a line ends, and its row is written
-    pub far-row : {u : Fed} {line : Line} {a n : ℕ} {d : Store} {r : Reader} {out′ : List ℕ} {o′ : ℕ}
-        → u ≡ fed (p .reader) (drop i block) i → u .whole ≡ true → line ≡ finished (u .reader) → outcome a n d ≡ step G (p .kept) line → r ≡ Letters 0
-        → Wrote out o (fitting out o (row (p .number) a n)) out′ o′ → length out′ ≡ length out
-        → Far G stop at out₀ (record { kept = d; number = p .number + 1; reader = r }) block (u .next) out′ o′
-    far-row {u} {line} {a} {n} {d} {r} {out′} {o′} g h e c f w k =
-        let s = u .reader in
-        let next = u .next in
-        let x = line-ends g h in
-        let came : outcome a n d ≡ step G (p .kept) (finished s) = c ∙ ap (step G (p .kept)) e in
-        let stood : replied G p s ≡ record { kept = d; number = p .number + 1; reader = r } =
-        ap₂ (λ (u : Outcome Store) (q : Reader). record { kept = u .state; number = p .number + 1; reader = q }) (sym came) (sym f) in
-        let left : drop (suc (x .0)) (drop i block) ≡ drop next block = drop-drop (suc (x .0)) i block ∙ ap (λ (m : ℕ). drop m block) (sym (x .1)) in
-        let shown : reply G p s ≡ row (p .number) a n = ap (λ (u : Outcome Store). row (p .number) (u .answer) (u .spent)) (sym came) in
-        let put = wrote-row out o (row (p .number) a n) out′ o′ (omega arith) w in
-        let short = length-row (p .number) a n in
-        let size : o′ ≡ o + length (row (p .number) a n) = put .next-is in
-        let there : length out - o - length (reply G p s) ≡ length out′ - o′ = ap (λ (m : List ℕ). length out - o - length m) shown ∙ omega (arith, size, k) in
-        let q : Standing = record { kept = d; number = p .number + 1; reader = r } in
-        record {
-          written = far .written ++ row (p .number) a n;
-          passed = far .passed + suc (x .0);
-          place = omega (arith, far .place, x .1);
-          out-is = put .result-is ∙ ap₂ (λ (m : List ℕ) (j : ℕ). sets m j (row (p .number) a n)) (far .out-is) (far .used-is ∙ omega arith)
-              ∙ sym (sets-append out₀ 0 (far .written) (row (p .number) a n));
-          used-is = size ∙ ap (λ (j : ℕ). j + length (row (p .number) a n)) (far .used-is) ∙ sym (length-append (far .written) (row (p .number) a n));
-          room = omega (arith, size, k, short, far .room);
-          rest = far .rest ∙ ap (ahead (far .passed) (far .written)) (opened ∙ x .3 ∙ moved-on (suc (x .0)) shown there stood left)
-              ∙ joined (far .passed) (suc (x .0)) (far .written) (row (p .number) a n) (serving G (length out′ - o′) true q (drop next block));
-        }
-      where
-        moved-on : (j : ℕ) {w v : List ℕ} {m u : ℕ} {p′ q : Standing} {l l′ : List ℕ} → w ≡ v → m ≡ u → p′ ≡ q → l ≡ l′
-            → ahead j w (serving G m true p′ l) ≡ ahead j v (serving G u true q l′)
-        moved-on j e f g h = rw (e, f, g, h)
-
-        joined : (j m : ℕ) (w v : List ℕ) (t : Stop) → ahead j w (ahead m v t) ≡ ahead (j + m) (w ++ v) t
-        joined j m w v t =
-            ap₂ (λ (n : ℕ) (u : List ℕ). record { stands = t .stands; read = n; wrote = u }) (omega arith) (sym (append-assoc w v (t .wrote)))
+  serving-line p [] at h = clash h (ap (λ (f : Fed). f .whole) (fed-none (p .reader) at))
+  serving-line p (b ∷ l) at h =
+      by-truth (eqb b 10)
+      (λ e. rw (fed-line (p .reader) b l at e) (0, refl, omega arith, if-false _ _ (false-and _ refl) ∙ if-true _ _ e))
+      (λ e.
+      let f = fed-byte (p .reader) b l at e in
+      let w = serving-line (reading p (stepOf (p .reader) b)) l (at + 1) (sym (ap (λ (g : Fed). g .whole) f) ∙ h) in
+      let r = reply G p (fed (stepOf (p .reader) b) l (at + 1) .reader) in
+      let rest = serving G (room - length r) true (replied G p (fed (stepOf (p .reader) b) l (at + 1) .reader)) (drop (suc (w .0)) l) in
+      rw f (
+        suc (w .0),
+        omega (arith, w .1),
+        omega (arith, w .2),
+        serving-byte p b l e ∙ ap (ahead 1 []) (w .3) ∙ ap (λ (n : ℕ). record { stands = rest .stands; read = n; wrote = r ++ rest .wrote }) (omega arith),
+      ))
 
 -- ---- the end of the input
 

@@ -1,10 +1,11 @@
 -- `main` meets its contract: the arrays that it lends are those of the beginning. Assumes nothing.
 use borrow.Author.Needs.{needs}
-use mathlib.Core.Path.{sym}
+use mathlib.Core.Path.{refl, sym}
 use native.Mathlib.Omega.{arith}
 use lib.Seq.{length-take-le}
+use Rattle.bits.proofs.Tabulate.{zeros}
 use Rattle.table.specs.Table.{tableLength}
-use Rattle.guard.proofs.Leading.{zeros, at-first}
+use Rattle.transcript.proofs.Claims.{begun-is}
 use Rattle.guard.proofs.main.Statement.{statement}
 use Rattle.guard.proofs.main.Tie as tie
 
@@ -24,7 +25,7 @@ main-spec =
     (λ c. search needs)
     (λ c. search needs)
     (λ c. search needs)
-    (λ c κs. at-first (zeros tableLength) (zeros 64) (zeros 8) (zeros 64) (zeros 64))
+    (λ c κs. begun-is (zeros tableLength _ (λ i h. refl)) (zeros 64 _ (λ i h. refl)) (zeros 8 _ (λ i h. refl)) (zeros 64 _ (λ i h. refl)) (zeros 64 _ (λ i h. refl)))
     (λ c κs. search needs)
     (λ c. search needs)
     (λ c. search needs)

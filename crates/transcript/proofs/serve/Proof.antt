@@ -6,9 +6,7 @@ use mathlib.Core.Path.{_≡_, refl, sym, _∙_}
 use mathlib.Core.Bool.{true}
 use mathlib.Core.List.{List}
 use native.Mathlib.Nat.{le-of-eq}
-use native.Mathlib.Nat.{le-of-eq}
 use native.Mathlib.Omega.{arith}
-use lib.Dec.{lit≤}
 use lib.Dec.{lit≤}
 use lib.ListN.{length, take, drop}
 use Rattle.bits.proofs.Truth.{confirmed, refuted}
@@ -19,7 +17,7 @@ use Rattle.entries.specs.declared.Phase.{Phase}
 use Rattle.ledger.specs.Store.{store}
 use Rattle.ledger.specs.Step.{unguarded}
 use Rattle.transcript.specs.Stream.{Standing, serving}
-use Rattle.transcript.proofs.Serving.{Far, far-start, far-no-room, far-no-number, far-end, far-used, far-next, far-row}
+use Rattle.transcript.proofs.Far.{Far, far-start, far-no-room, far-no-number, far-end, far-used, far-next, far-row}
 use Rattle.transcript.proofs.serve.Statement.{statement}
 use Rattle.transcript.proofs.serve.Tie as tie
 
