@@ -12,4 +12,3 @@ pub mod Encode
 pub mod Answers
 pub mod Gathering
 pub mod Overlaying
-pub mod Bench
