@@ -1,4 +1,5 @@
--- What is claimed of likeness, each as the answer to a question. proofs/Claims.antt proves them.
+-- What is claimed of likeness, each as the answer to a question. proofs/Claims.antt proves them, but for `OpenedAlike`
+-- (proofs/Opening.antt) and `ActivationsDiffer` (proofs/Apart.antt).
 use mathlib.Core.Logic.{_↔_}
 use Rattle.bits.specs.Words.{ℕ, _<_, _≡_, Bool, true, false, List, [], _∷_, eqb, _and_, _or_}
 use Rattle.table.specs.State.{State}

@@ -21,6 +21,7 @@ direct = tabulate 64 (λ r. if eqb r 5 then 8 else (if eqb r 3 then 2 else 0))
 unfoldable pub permissions : List ℕ
 permissions = 512 ∷ 0 ∷ 0 ∷ 0 ∷ 0 ∷ 0 ∷ 0 ∷ 0 ∷ []
 
+-- the rows, in sequence
 unfoldable pub starred : List Row
 starred =
     -- A
@@ -69,10 +70,11 @@ Met t (asked q n ∷ rows) = (roleStep t q .answer ≡ n) × Met (roleStep t q .
 Met t (compared a b w ∷ rows) = (stands a b ≡ w) × Met t rows
 Met t (holds b ∷ rows) = (b ≡ true) × Met t rows
 
--- on every table, whatever it held before the set-up
+-- on the table t the set-up is accepted, and every row is met after it
 pub record Starred (t : List ℕ) : Type 0 where
   pub accepted : roleSetUp t direct permissions .answer ≡ 1
   pub met : Met (roleSetUp t direct permissions .state) starred
 
+-- on every table, whatever it held before the set-up
 abbrev pub StarredCases : Type 0
 StarredCases = (t : List ℕ) → length t ≡ tableLength → Starred t

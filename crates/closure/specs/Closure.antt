@@ -17,7 +17,7 @@ through (suc n) rows = via n (through n rows)
 unfoldable pub closure : List ℕ → List ℕ
 closure direct = through 64 (tabulate 64 (λ r. getD direct r 0 with r))
 
--- no two different roles are each among the other's
+-- no two different roles are each in the other's row
 unfoldable pub acyclic : List ℕ → Bool
 acyclic rows = all 64 (λ r. each (getD rows r 0) (λ q. has (getD rows q 0) r implies eqb r q))
 

@@ -1,4 +1,4 @@
--- What is claimed of images, each as the answer to a question. proofs/Claims.antt proves them.
+-- What is claimed of images, each as the answer to a question. proofs/Claims.antt and proofs/Beginning.antt prove them.
 use mathlib.Core.Logic.{_↔_}
 use Rattle.bits.specs.Words.{ℕ, _^_, _<_, _≡_, true, List, length}
 use Rattle.table.specs.Reading.{word, state}
@@ -9,7 +9,7 @@ use Rattle.image.specs.Image.{image}
 use Rattle.image.specs.Test.{isImage}
 use Rattle.image.specs.SetUp.{labelSetUp}
 
--- the clearances, labels, users and levels of a machine state are there
+-- the clearances, labels, users and levels of a machine state are in range
 pub record Ranged (m : Machine) : Type 0 where
   pub clearances : (u : ℕ) → u < 64 → m .clearance u < 32
   pub labels : (o : ℕ) → o < 64 → m .label o < 32
@@ -20,11 +20,11 @@ pub record Safe (m : Machine) : Type 0 where
   pub cleared : (s u y : ℕ) → s < 32 → m .seat s ≡ at u y → equalOrAbove (stands (m .clearance u) y) ≡ true
   pub openings : (s o x : ℕ) → s < 32 → o < 64 → x < 2 → m .held s o x ≡ true → mayOpen (m .seat s) (m .label o) x ≡ true
 
--- Is the image of a machine state sound? Exactly when the state is safe.
+-- Is the image of a machine state, its values in range, sound? Exactly when the state is safe.
 abbrev pub SoundImage : Type 0
 SoundImage = (m : Machine) → Ranged m → isSound (image m) ≡ true ↔ Safe m
 
--- the table is the image of a machine state
+-- the table is the image of a machine state, its values in range
 pub record Imaged (t : List ℕ) : Type 0 where
   pub machine : Machine
   pub ranged : Ranged machine
@@ -44,7 +44,8 @@ abbrev pub SetUpRefused : Type 0
 SetUpRefused =
     (t clearances labels : List ℕ) → (labelSetUp t clearances labels .answer ≡ 1 → ⊥) → labelSetUp t clearances labels .state ≡ t
 
--- Do the old contents of the table matter? Not to the answer, and not to the table of an accepted set-up.
+-- Do the old contents of the table matter? Not where a set-up is accepted: whatever a list of that length held, it is accepted and
+-- leaves the same table.
 abbrev pub OldContents : Type 0
 OldContents =
     (t t′ clearances labels : List ℕ) → length t ≡ length t′ → labelSetUp t clearances labels .answer ≡ 1

@@ -5,7 +5,7 @@ use Rattle.table.specs.Table.{encode}
 use Rattle.machine.specs.Label.{stands, equalOrAbove}
 use Rattle.machine.specs.Machine.{Machine, Seat, idle, at, mayOpen}
 
--- role r is senior to role q or is q: a read role when its label dominates the other's, a write role the other way round
+-- role r is senior to role q or is q: read roles when r's label dominates q's, write roles the other way round, one of each never
 unfoldable pub above : ℕ → ℕ → Bool
 above r q = if ltb r 32 then ltb q 32 and equalOrAbove (stands r q) else leb 32 q and equalOrAbove (stands (q - 32) (r - 32))
 
@@ -41,9 +41,9 @@ shown m = record {
   owner = λ s. seatOwner (m .seat s);
   active = λ s. seatRoles (m .seat s);
   holds = λ s x. pack 64 (λ o. ltb x 2 and m .held s o x);
-  sets = λ i. 0;
-  direct = λ r. pack 64 (λ q. not (eqb q r) and above r q);
-  masks = λ s x. pack 64 (λ o. ltb x 2 and mayOpen (m .seat s) (m .label o) x);
+  sets = λ i. 0;  -- none (02, S-4)
+  direct = λ r. pack 64 (λ q. not (eqb q r) and above r q);  -- every junior but the role itself (02, S-5)
+  masks = λ s x. pack 64 (λ o. ltb x 2 and mayOpen (m .seat s) (m .label o) x);  -- the true masks (02, S-6)
 }
 
 abbrev pub image : Machine → List ℕ

@@ -28,6 +28,7 @@ reclearPlan old deassigned u c =
     if not deassigned then record { answer = 0; requests = ask 7 u c 0 ∷ ask 8 u old 0 ∷ ask 8 u c 0 ∷ [] } else
     record { answer = 1; requests = ask 7 u c 0 ∷ ask 8 u old 0 ∷ [] }
 
+-- the role guard answers yes
 unfoldable pub saysYes : RoleGuard → List ℕ → Ask → Bool
 saysYes guard t q = eqb (guard t q .answer) 1
 

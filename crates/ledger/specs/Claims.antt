@@ -1,4 +1,4 @@
--- What is claimed of a transcript's lines, each as the answer to a question. proofs/Claims.antt proves them.
+-- What is claimed of a transcript's lines, each as the answer to a question. proofs/Claims.antt and proofs/Showing.antt prove them.
 use Rattle.bits.specs.Words.{ℕ, _<_, _≡_, Bool, true, List, eqb, leb, length, _or_}
 use Rattle.table.specs.Table.{isTable}
 use Rattle.sound.specs.Answers.{isSound}
@@ -23,6 +23,7 @@ SoundIn Opening t = Unit {0}
 SoundIn (SettingUp m) t = Unit {0}
 SoundIn (Running m) t = SoundFor m t
 
+-- the same of what is kept
 abbrev pub StoreSound : Store → Type 0
 StoreSound d = SoundIn (d .phase) (d .table)
 
@@ -57,7 +58,7 @@ pub record Proper (d : Store) : Type 0 where
   pub clearances-known : areLabels (d .clearances) ≡ true
   pub labels-known : areLabels (d .labels) ≡ true
 
--- Which refusals does no line get? 12 to 15, 18 and 21: with lists of their lengths a line shows none of them, and the lists keep
--- their lengths.
+-- Which refusals does no line get? 12 to 15, 18 and 21: where the table and the lists are proper, a line shows none of them, and
+-- they stay proper.
 abbrev pub LineShows : Type 0
 LineShows = (d : Store) (l : Line) → StoreSound d → Proper d → (shows (step guarded d l .answer) ≡ true) × Proper (step guarded d l .state)

@@ -8,7 +8,7 @@ pub record Store : Type 0 where
   -- the mode, and whether its set-up is done
   pub phase : Phase
   pub table : List ℕ
-  -- the lists that the set-up is made from: 64 words, 8 words, 64 bytes, 64 bytes
+  -- the lists that the set-up is made from: in the program 64 words, 8 words, 64 bytes, 64 bytes
   pub juniors : List ℕ
   pub permissions : List ℕ
   pub clearances : List ℕ
@@ -43,13 +43,13 @@ withClearances d l = store (d .phase) (d .table) (d .juniors) (d .permissions) l
 abbrev pub withLabels : Store → List ℕ → Store
 withLabels d l = store (d .phase) (d .table) (d .juniors) (d .permissions) (d .clearances) l
 
--- the member v, 63 at most, is put into word i, last at most, of a list; other values get 19
+-- the member v, 63 at most, is put into word i, last at most, of a list that has it, and a shorter one stays; other values get 19
 unfoldable pub added : List ℕ → ℕ → ℕ → ℕ → Outcome (List ℕ)
 added list last i v =
     if not (leb i last and leb v 63) then refuse 19 list else
     accept (set list i (getD list i 0 with v))
 
--- the label v, 31 at most, is stored at place i, 63 at most, of a list; other values get 19
+-- the label v, 31 at most, is stored at place i, 63 at most, of a list that has it, and a shorter one stays; other values get 19
 unfoldable pub stored : List ℕ → ℕ → ℕ → Outcome (List ℕ)
 stored list i v =
     if not (leb i 63 and leb v 31) then refuse 19 list else

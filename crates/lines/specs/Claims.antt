@@ -11,7 +11,7 @@ use Rattle.lines.specs.declared.Reader.the-variants.{Letters}
 abbrev pub LineRead : Type 0
 LineRead = (l : List ℕ) → finished (steps (Letters 0) l) ≡ line l
 
--- bytes without a newline
+-- there is no newline among the bytes
 abbrev pub inOneLine : List ℕ → Bool
 inOneLine l = every (λ b. not (eqb b newline)) l
 
@@ -36,8 +36,8 @@ pub record LastPiece (ps : List (List ℕ)) (p rest : List ℕ) (at : ℕ) : Typ
   pub next : fed (handed (Letters 0) ps) (p ++ newline ∷ rest) at .next ≡ at + length p + 1
   pub line-is : finished (fed (handed (Letters 0) ps) (p ++ newline ∷ rest) at .reader) ≡ line (flat ps ++ p)
 
--- Does it matter how a line is cut? No: its pieces, wherever it is cut, in order, give the fields or the refusal of the line in
--- one piece, which is the case without pieces before the last.
+-- Does it matter how a line is cut (02, S-3)? No: its pieces, wherever it is cut, in order, give the fields or the refusal of the
+-- line in one piece, which is the case without pieces before the last.
 abbrev pub PiecesFed : Type 0
 PiecesFed = (ps : List (List ℕ)) (p rest : List ℕ) (at : ℕ) → inOneLine (flat ps ++ p) ≡ true → LastPiece ps p rest at
 

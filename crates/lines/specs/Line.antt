@@ -1,5 +1,5 @@
 -- What a line of the transcript program is: refusal 10 of 01 and its section on the program. A line is its bytes without
--- the newline. Whether the word belongs to the mode, and takes as many fields, is the transcript's to say.
+-- the newline. Whether the word belongs to the mode, and takes as many fields, is said in crate entries.
 use Prim.Native.Char.{code}
 use Rattle.bits.specs.Words.{ℕ, _+_, _-_, _*_, _^_, Bool, false, List, [], _∷_, eqb, leb, ltb, length, _and_, if_then_else_}
 use mathlib.Core.Option.{Option, some, none}

@@ -16,7 +16,7 @@ use Rattle.sound.specs.Answers.{sessionsHold}
 unfoldable pub linkable : State → ℕ → ℕ → Bool
 linkable S r q = not (eqb r q) and not (senior S q r) and staticSetsHold (withDirect S r (S .direct r with q))
 
--- the link is there, and afterwards every active role is authorised and every opening effective
+-- the link is there, and afterwards every session word is at most 64, every active role authorised and every opening effective
 unfoldable pub unlinkable : State → ℕ → ℕ → Bool
 unlinkable S r q = has (S .direct r) q and sessionsHold (withDirect S r (S .direct r without q))
 

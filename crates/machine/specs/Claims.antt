@@ -1,4 +1,4 @@
--- What is claimed of labels and of the machine, each as the answer to a question. proofs/Claims.antt proves them.
+-- What is claimed of labels and of the machine, each as the answer to a question. proofs/Claims.antt and proofs/Wall.antt prove them.
 use mathlib.Core.Logic.{_↔_}
 use Rattle.bits.specs.Words.{ℕ, _≤_, _<_, _≡_, true, List, has}
 use Rattle.requests.specs.Request.{Ask}
@@ -50,7 +50,7 @@ pub record CaseI : Type 0 where
   pub top : (a : ℕ) → a < 32 → equalOrAbove (stands 31 a) ≡ true
   pub bottom : (a : ℕ) → a < 32 → equalOrAbove (stands 0 a) ≡ true ↔ a ≡ 0
 
--- Does the machine keep rival columns apart? From any state and under any list of requests no column is carried into one
--- whose label does not dominate its own.
+-- Does the machine keep rival columns apart? From any state and under any list of requests no column is carried, by the lives that
+-- begin in the list, into one whose label does not dominate its own.
 abbrev pub Walled : Type 0
 Walled = (m : Machine) (qs : List Ask) (c d : ℕ) → Carried (trace step m qs) c d → equalOrAbove (stands (m .label d) (m .label c)) ≡ true

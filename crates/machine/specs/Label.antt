@@ -17,7 +17,7 @@ stands a b =
     if leb (class a) (class b) and subset (brands a) (brands b) then Below else
     Apart
 
--- the first label dominates the second
+-- the first label dominates the second (01): they are equal, or the first is above
 unfoldable pub equalOrAbove : Standing → Bool
 equalOrAbove Equal = true
 equalOrAbove Above = true

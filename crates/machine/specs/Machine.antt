@@ -1,4 +1,4 @@
--- The Bell-LaPadula machine of 01 ("Labels") and its five requests. Users and objects are 0 to 63, sessions and labels 0 to 31.
+-- The Bell-LaPadula machine of 01 ("Labels"). Users and objects are 0 to 63, sessions and labels 0 to 31, modes 0 and 1.
 use Rattle.bits.specs.Words.{ℕ, _-_, Bool, true, false, not, List, [], _∷_, eqb, leb, getD, _and_, _implies_, if_then_else_, upd, all}
 use Rattle.requests.specs.Request.{Ask, Outcome, refuse, decide, within}
 use Rattle.machine.specs.Label.{stands, equalOrAbove}

@@ -13,6 +13,6 @@ allMasks t = tabulate 256 (λ i. if isTable t then maskOf (state t) (i / 8) (i %
 unfoldable pub sessionRefreshed : List ℕ → ℕ → List ℕ
 sessionRefreshed t s = if isTable t and ltb s 32 then encode (refreshedAt s (state t)) else t
 
--- with the pair (x, o) of every session
+-- the table with the pair (x, o) worked out anew in the masks of every session
 unfoldable pub pairRefreshed : List ℕ → ℕ → ℕ → List ℕ
 pairRefreshed t x o = if isTable t and ltb x 8 and ltb o 64 then encode (refreshedPair x o (state t)) else t

@@ -11,7 +11,7 @@ unfoldable pub text : ℕ → ℕ → List ℕ
 text zero n = []
 text (suc k) n = if leb n 9 then (code "0" + n) ∷ [] else text k (n / 10) ++ ((code "0" + n % 10) ∷ [])
 
--- a number below 2^64 has 20 digits at most
+-- the decimal digits of a number below 2^64, which has 20 at most; of a larger one the last 20
 unfoldable pub decimal : ℕ → List ℕ
 decimal n = text 20 n
 

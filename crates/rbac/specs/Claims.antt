@@ -34,7 +34,7 @@ abbrev pub KeptApart : Type 0
 KeptApart = (t : List ℕ) (qs : List Ask) → isSound t ≡ true → Separated (state (after t qs))
 
 -- Do the sets change anything where none is in use? Not one answer or word, of a list of any length: there every request but codes
--- 11 and 12 comes to what it comes to in the guard of 01 with the links and the masks of 02, which knows no sets.
+-- 11 and 12 comes to what it comes to in the guard of 01 with the starts, links and masks of 02, which knows no sets.
 unfoldable pub plainStep : List ℕ → Ask → Outcome (List ℕ)
 plainStep t q =
     if not (isTable t) then refuse 12 t else

@@ -27,7 +27,7 @@ checked test change t q =
     if carriesBadPair q then refuse 21 t else
     served test change t (decode q)
 
--- a role request: its answer, and the table after it
+-- a role request: its answer, the figure spent, and the table after it
 unfoldable pub roleStep : List ℕ → Ask → Outcome (List ℕ)
 roleStep t q =
     if not (isTable t) then refuse 12 t else

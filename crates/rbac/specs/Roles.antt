@@ -99,7 +99,7 @@ moved S (unlinks r q) = withDirect S r (S .direct r without q)
 unfoldable pub changed : State → Request → State
 changed S r = refreshed (moved S r)
 
--- the answer is yes, by the rules of 01 and of 02, S-5, and where no set is looked at
+-- the answer is yes by the rules of 01 and of 02, S-1 and S-5, the sets left aside
 unfoldable pub rolesAllow : State → Request → Bool
 rolesAllow S (opens s o x) = effective S s x o
 rolesAllow S (closes s o x) = true
@@ -120,7 +120,7 @@ rolesAllow S (unlinks r q) = has (S .direct r) q and rolesSound (changed S (unli
 unfoldable pub allowed : State → Request → Bool
 allowed S r = rolesAllow S r and separated (changed S r)
 
--- a grant or revoke names a permission
+-- the pair is a permission, where the request is a grant or a revoke; else true
 unfoldable pub known : State → Request → Bool
 known S (opens s o x) = true
 known S (closes s o x) = true

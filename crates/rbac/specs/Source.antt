@@ -1,5 +1,5 @@
--- Table 1 of source 000, in its own terms: the state (m, user, UA, PA, roles) of §2.4, the effective permissions EP of §2.5
--- and the transition for an opening (+) and a closing (-). Sets are tests of their elements.
+-- Table 1 of source 000 (§4.2.1), in its own terms: the state (m, user, UA, PA, roles) of §2.4, the effective permissions EP of
+-- §2.5 and the transition for an opening (+) and a closing (-). Sets are tests of their elements.
 use Rattle.bits.specs.Words.{ℕ, _<_, _≡_, Bool, true, not, eqb, _and_, _or_, has}
 use Rattle.bits.specs.Sets.{any}
 use Rattle.table.specs.State.{State}

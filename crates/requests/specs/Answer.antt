@@ -1,4 +1,5 @@
--- The number of every answer and every refusal in 01 and 02.
+-- The numbers of yes and no, and of refusals 12 to 20 of 01 and 21 of 02, S-4. (10 and 11, of a transcript's lines, are in crate
+-- `entries`.)
 use Rattle.bits.specs.Words.{ℕ}
 use Rattle.requests.specs.declared.Refusal.{Refusal}
 use Rattle.requests.specs.declared.Refusal.the-variants.{WrongLength, Unsound, NoImage, BadCode, BadArgument, NoPermission, BadListLength, BadValue, Cycle, BadPair}

@@ -34,7 +34,7 @@ SetUpRefused =
     (t direct permissions : List ℕ) → (roleSetUp t direct permissions .answer ≡ 1 → ⊥)
     → roleSetUp t direct permissions .state ≡ t
 
--- Do the old contents of the table matter? Not to the answer, and not to the table of an accepted set-up.
+-- Do the old contents of the table matter to an accepted set-up? Neither to the answer nor to the table.
 abbrev pub OldContents : Type 0
 OldContents =
     (t t′ direct permissions : List ℕ) → length t ≡ length t′ → roleSetUp t direct permissions .answer ≡ 1

@@ -13,7 +13,7 @@ pub record Told : Type 0 where
 unfoldable pub told : ℕ → List ℕ → Told
 told n words = record { answer = n; words = words }
 
--- refusals 12, 13 and 16 in order, then 1: the session or user is there, and the lent words have their number
+-- refusals 12, 13 and 16 in order, then 1; known: the session or user is there, and the lent words have their number
 unfoldable pub readable : List ℕ → Bool → ℕ
 readable t known =
     if not (isTable t) then 12 else

@@ -18,7 +18,7 @@ use Rattle.labels.specs.Guard.{labelStep}
 abbrev pub Unchanged : Type 0
 Unchanged = (t : List ℕ) → ((i : ℕ) → word t i < 2 ^ 64) → (q : Ask) → (labelStep t q .answer ≡ 1 → ⊥) → labelStep t q .state ≡ t
 
--- two machine states have the same clearances, labels, seats and openings
+-- two machine states have the same clearances, labels, seats and openings, of the users, objects, sessions and modes that there are
 pub record Same (m n : Machine) : Type 0 where
   pub clearances : (u : ℕ) → u < 64 → m .clearance u ≡ n .clearance u
   pub labels : (o : ℕ) → o < 64 → m .label o ≡ n .label o
@@ -33,7 +33,7 @@ pub record Reachable (m : Machine) : Type 0 where
   pub requests : List Ask
   pub reached : Same m (final step (begin clearances labels) requests)
 
--- Is the image of a machine state sound? Exactly when the machine can reach the state.
+-- Is the image of a machine state, its values in range, sound? Exactly when the machine can reach the state.
 abbrev pub ReachableImage : Type 0
 ReachableImage = (m : Machine) → Ranged m → isSound (image m) ≡ true ↔ Reachable m
 

@@ -17,6 +17,7 @@ askAt words i = ask (getD words (4 * i) 0) (getD words (4 * i + 1) 0) (getD word
 unfoldable pub serveAt : List ℕ → List ℕ → ℕ → Outcome (List ℕ)
 serveAt t words i = if leb (length words / 4) i then refuse 18 t else imageStep t (askAt words i)
 
+-- the requests of the words, in order
 unfoldable pub asks : List ℕ → List Ask
 asks words = tabulate (length words / 4) (askAt words)
 
@@ -35,6 +36,7 @@ pub record Left : Type 0 where
   pub table : List ℕ
   pub replies : List ℕ
 
+-- an answer with a table and words of replies
 unfoldable pub kept : ℕ → List ℕ → List ℕ → Left
 kept n t replies = record { answer = n; table = t; replies = replies }
 

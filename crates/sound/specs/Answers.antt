@@ -1,5 +1,6 @@
 -- What the public functions answer, for a list of any length and any number: no, where the list is no table or there is no
--- such session, user, mode or object. `isSound` is 01's soundness; the others are the part of it that one change can break.
+-- such session, user, mode or object. `isSound` is soundness, of 01 and 02; the others are the parts of it that one change can
+-- break.
 use Rattle.bits.specs.Words.{ℕ, suc, _+_, _*_, Bool, List, eqb, leb, ltb, getD, _and_, _implies_, has, all, subset}
 use Rattle.bits.specs.Sets.{each}
 use Rattle.table.specs.State.{State}

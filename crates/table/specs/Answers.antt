@@ -1,5 +1,5 @@
 -- What the public functions answer, for a list of any length and any number: nothing of a list that is no table, nor of a
--- user, session, mode or object that there is not.
+-- user, role, session, mode or object that there is not.
 use Rattle.bits.specs.Words.{ℕ, _+_, _-_, Bool, List, eqb, leb, ltb, length, getD, _and_, if_then_else_, all, pack, tabulate}
 use Rattle.bits.specs.Sets.{overlap}
 use Rattle.table.specs.Authority.{covers, authorised, mayActivate, effective}

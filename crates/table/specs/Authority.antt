@@ -1,14 +1,14 @@
 -- Seniority, authorised roles (ER) and effective permissions (EP) after source 000, each as a test, and below as a plain
--- statement. Nothing here looks past the users, roles, objects, sessions and modes that there are.
+-- statement. Roles are looked for among 0 to 63; the user, role, object, session or mode asked for is not held to its range here.
 use Rattle.bits.specs.Words.{ℕ, _-_, _<_, _≡_, Bool, true, not, eqb, _and_, has}
 use Rattle.bits.specs.Sets.{some}
 use Rattle.table.specs.State.{State}
 
--- role r is senior to role q or is q: q ≤ r in source 000, §2.2
+-- role r is senior to role q or is q: q ≤ r in source 000, §2.3
 abbrev pub senior : State → ℕ → ℕ → Bool
 senior S r q = has (S .juniors r) q
 
--- the pair (mode x, object o) is a permission: an element of P in source 000, §2.1
+-- the pair (mode x, object o) is a permission: an element of P in source 000, §2.2
 abbrev pub permission : State → ℕ → ℕ → Bool
 permission S x o = has (S .permitted x) o
 
@@ -28,7 +28,7 @@ covers S roles q = some roles (λ r. senior S r q)
 unfoldable pub authorised : State → ℕ → ℕ → Bool
 authorised S u q = covers S (S .assigned u) q
 
--- 01: an idle session has no authorised roles; any other has those of its user
+-- 01: an idle session has no authorised roles; any other has those of its user: ER of source 000, §2.5
 unfoldable pub mayActivate : State → ℕ → ℕ → Bool
 mayActivate S s q = not (idle S s) and authorised S (user S s) q
 

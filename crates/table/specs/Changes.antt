@@ -1,4 +1,5 @@
--- A state with one of its sections replaced, and with one of its words; the juniors follow the direct ones.
+-- A state with one of its sections replaced, and with the words of one user, pair, session, set or role; the juniors follow the
+-- direct ones (`setDirect`, `withDirect`).
 use Rattle.bits.specs.Words.{ℕ, _+_, _*_, getD, upd}
 use Rattle.closure.specs.Closure.{closure}
 use Rattle.table.specs.State.{State}
@@ -136,7 +137,7 @@ withActive S s w = setActive S (upd (S .active) s w)
 abbrev pub withHolds : State → ℕ → (ℕ → ℕ) → State
 withHolds S s f = setHolds S (upd (S .holds) s f)
 
--- the roles and the bound of separation set n
+-- the roles and the bound of pair n
 abbrev pub withSet : State → ℕ → ℕ → ℕ → State
 withSet S n m b = setSets S (upd (upd (S .sets) (2 * n) m) (2 * n + 1) b)
 

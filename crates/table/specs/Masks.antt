@@ -18,7 +18,7 @@ masksTrue S = all 32 (λ s. all 8 (λ x. eqb (S .masks s x) (maskOf S s x)))
 abbrev pub refreshed : State → State
 refreshed S = setMasks S (maskOf S)
 
--- with those of session s
+-- the state with the masks of session s worked out anew
 abbrev pub refreshedAt : ℕ → State → State
 refreshedAt s S = withMasks S s (maskOf S s)
 
@@ -26,7 +26,7 @@ refreshedAt s S = withMasks S s (maskOf S s)
 unfoldable pub put : ℕ → ℕ → Bool → ℕ
 put w i b = if b then w with i else w without i
 
--- with the pair (x, o) of every session
+-- the state with the pair (x, o) worked out anew in the masks of every session
 abbrev pub refreshedPair : ℕ → ℕ → State → State
 refreshedPair x o S = setMasks S (λ s. upd (S .masks s) x (put (S .masks s x) o (effective S s x o)))
 

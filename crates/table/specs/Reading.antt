@@ -1,5 +1,5 @@
--- The state that a table shows, and where each of its words stands. Nothing else mentions a place in the table. Words that a
--- shorter list lacks read as 0.
+-- The state that a table shows, and where each of its words stands. No other page says where, but for the order of the sections in
+-- `encode` (Table). Words that a shorter list lacks read as 0.
 use Rattle.bits.specs.Words.{ℕ, _+_, _*_, List, getD}
 use Rattle.table.specs.State.{State}
 

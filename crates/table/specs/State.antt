@@ -1,4 +1,4 @@
--- The RBAC96 state of source 000: users, roles and objects 0 to 63, sessions 0 to 31, modes 0 to 7 (01). A set is a word.
+-- RBAC96 (source 000) and what 02 adds to it: users, roles and objects 0 to 63, sessions 0 to 31, modes 0 to 7 (01). A set is a word.
 use Rattle.bits.specs.Words.{ℕ}
 
 pub record State : Type 0 where
@@ -9,6 +9,6 @@ pub record State : Type 0 where
   pub owner : ℕ → ℕ  -- of session s: 0 when s is idle, else its user plus 1
   pub active : ℕ → ℕ  -- of session s: its active roles
   pub holds : ℕ → ℕ → ℕ  -- of session s and mode x: the objects that s holds open in mode x
-  pub sets : ℕ → ℕ  -- of separation set n, 0 to 15 static, 16 to 31 dynamic (02, S-4): at 2 n its roles, at 2 n + 1 its bound
+  pub sets : ℕ → ℕ  -- of pair n, static set n or, from 16 on, dynamic set n - 16 (02, S-4): at 2 n its roles, at 2 n + 1 its bound
   pub direct : ℕ → ℕ  -- of role r: its direct juniors as given, without r (02, S-5)
   pub masks : ℕ → ℕ → ℕ  -- of session s and mode x: the objects that s may open in mode x (02, S-6)

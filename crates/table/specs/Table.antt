@@ -1,4 +1,4 @@
--- The table of 01 ("The table"): the words that show a state.
+-- The table of 01 ("The table"), with the sections that 02 adds at its end (S-4, S-5, S-6): the words that show a state.
 use Rattle.bits.specs.Words.{ℕ, _/_, _%_, Bool, List, _++_, eqb, length, tabulate}
 use Rattle.table.specs.State.{State}
 

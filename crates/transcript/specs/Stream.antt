@@ -20,6 +20,7 @@ pub record Standing : Type 0 where
   pub number : ℕ
   pub reader : Reader
 
+-- the same by its parts, as the code keeps them
 abbrev pub standing : Progress → List ℕ → List ℕ → List ℕ → List ℕ → List ℕ → Standing
 standing p table juniors permissions clearances labels = record {
   kept = store (p .phase) table juniors permissions clearances labels;
@@ -88,7 +89,7 @@ serving G room between p (b ∷ l) =
     if eqb b newline then ahead 1 (reply G p (p .reader)) (serving G (room - length (reply G p (p .reader))) true (replied G p (p .reader)) l) else
     ahead 1 [] (serving G room false (reading p (stepOf (p .reader) b)) l)
 
--- out′ and the places next and used are those of a block served from a place on
+-- q, the places next and used, and out′ are those of a block served from a place on; used is a place of out′
 pub record IsServed (stop : Stop) (at : ℕ) (out : List ℕ) (q : Standing) (next used : ℕ) (out′ : List ℕ) : Type 0 where
   pub stands-is : q ≡ stop .stands
   pub next-is : next ≡ at + stop .read
