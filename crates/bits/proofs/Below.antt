@@ -8,8 +8,14 @@ use native.Mathlib.Numerals.{add-one}
 use native.Mathlib.Omega.{arith}
 use lib.Dec.{T, leb, lit≤}
 use Rattle.bits.specs.Words.{_and_, all}
-use Rattle.bits.specs.Sets.{any, least, Any}
+use Rattle.bits.specs.Sets.{any, least}
 use Rattle.bits.proofs.Truth.{clash, by-truth, is-false, and-intro, and-left, and-right, or-left, or-right, or-elim, if-true, if-false}
+
+-- a number below n of which f holds
+pub record Any (n : ℕ) (f : ℕ → Bool) : Type 0 where
+  pub at : ℕ
+  pub below : at < n
+  pub holds : f at ≡ true
 
 -- a number below n + 1 is n or below n
 pub below-suc : {A : Type 0} {i n : ℕ} → i < suc n → (i ≡ n → A) → (i < n → A) → A

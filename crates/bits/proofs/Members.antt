@@ -7,10 +7,17 @@ use lib.Bits.{bitAnd, and-le-l}
 use native.Mathlib.Nat.{lt-of-le-of-lt}
 use borrow.Author.Tests.{eq-eqb, ne-eqb, eqb-true, not-true}
 use Rattle.bits.specs.Words.{has, subset, pack}
-use Rattle.bits.specs.Sets.{each, some, overlap, Some}
+use Rattle.bits.specs.Sets.{each, some, overlap}
 use Rattle.bits.proofs.Truth.{clash, by-truth, is-false, same-truth, and-intro, and-left, and-right, or-right, or-elim, implies-intro, implies-elim}
 use Rattle.bits.proofs.Below.{all-intro, all-elim, any-intro, any-elim}
 use Rattle.bits.proofs.Word.{has-zero, has-and, has-not, has-pack, none-in}
+
+-- a member of w of which f holds
+pub record Some (w : ℕ) (f : ℕ → Bool) : Type 0 where
+  pub at : ℕ
+  pub below : at < 64
+  pub member : has w at ≡ true
+  pub holds : f at ≡ true
 
 -- the word 0 has no member
 pub not-empty : (w i : ℕ) → has w i ≡ true → w ≡ 0 → ⊥

@@ -55,21 +55,6 @@ lowest w = least 64 (has w)
 unfoldable pub rest : ℕ → ℕ
 rest w = w without lowest w
 
--- ---- plain readings
-
--- a number below n of which f holds
-pub record Any (n : ℕ) (f : ℕ → Bool) : Type 0 where
-  pub at : ℕ
-  pub below : at < n
-  pub holds : f at ≡ true
-
--- a member of w of which f holds
-pub record Some (w : ℕ) (f : ℕ → Bool) : Type 0 where
-  pub at : ℕ
-  pub below : at < 64
-  pub member : has w at ≡ true
-  pub holds : f at ≡ true
-
 -- ---- what a function that goes through the members of a word is told: which number, and a bound
 
 pub record IsLowest (w r : ℕ) : Type 0 where

@@ -5,7 +5,7 @@ use Rattle.requests.specs.Request.{Ask, ask}
 use Rattle.rbac.specs.Guard.{roleStep}
 use Rattle.setup.specs.SetUp.{roleSetUp}
 use Rattle.machine.specs.declared.Standing.{Standing}
-use Rattle.machine.specs.declared.Standing.the-variants.{Equal, Above, Apart}
+use Rattle.machine.specs.declared.Standing.the-variants.{Equal, Apart}
 use Rattle.machine.specs.Label.{stands, equalOrAbove}
 
 -- a request with its answer, two labels and how they stand, or what holds of many

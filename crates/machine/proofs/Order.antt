@@ -5,7 +5,7 @@ use mathlib.Core.Bool.{Bool, true, false}
 use native.Mathlib.Omega.{arith}
 use lib.Dec.{eqb, leb}
 use borrow.Author.Tests.{le-leb, lt-leb, leb-true, eq-eqb, ne-eqb, eqb-true, eqb-false}
-use Rattle.bits.specs.Words.{_and_, if_then_else_, subset}
+use Rattle.bits.specs.Words.{_and_, subset}
 use Rattle.bits.proofs.Truth.{clash, by-truth, if-true, if-false, and-intro, and-left, and-right, true-and, false-and, same-truth}
 use Rattle.bits.proofs.Word.{has-zero, same-members}
 use Rattle.bits.proofs.Members.{subset-intro, subset-elim}

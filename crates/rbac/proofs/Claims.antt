@@ -224,13 +224,13 @@ module _ (t : List ℕ) (s o x : ℕ) (f : isSound t ≡ true) (hs : s < 32) (ho
 -- a yes and a no, here and there
 module _ (t : List ℕ) {o : Outcome (List ℕ)} {τ : Outcome Sigma} where
   yes-one : (S : State) (σ : Sigma) → o ≡ record { answer = 1; spent = 1; state = encode S } → τ ≡ record { answer = 1; spent = 1; state = σ }
-      → Same (sigma S) σ → IsTableOne t o τ
+      → Same (sigma S) σ → IsTableOne o τ
   yes-one S σ d e k = record {
     decision = answer-of d ∙ sym (answer-of e);
     next = subst (Same (sigma (state (o .state)))) (sym (state-of e)) (same-trans (same-sigma (rw (state-of d) (state-encode S))) k);
   }
 
-  no-one : o ≡ record { answer = 0; spent = 1; state = t } → τ ≡ record { answer = 0; spent = 1; state = sigma (state t) } → IsTableOne t o τ
+  no-one : o ≡ record { answer = 0; spent = 1; state = t } → τ ≡ record { answer = 0; spent = 1; state = sigma (state t) } → IsTableOne o τ
   no-one d e = record {
     decision = answer-of d ∙ sym (answer-of e);
     next = subst (Same (sigma (state (o .state)))) (sym (state-of e)) (same-sigma (rw (state-of d) (agree-refl (state t))));

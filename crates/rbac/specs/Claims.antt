@@ -50,19 +50,19 @@ ServedSame = (t : List ℕ) (q : Ask) → isSound t ≡ true → soundStep t q �
 
 -- Are an opening and a closing what table 1 of source 000 says? The answer is its decision, and the state that the table
 -- then shows is its next state.
-pub record IsTableOne (t : List ℕ) (o : Outcome (List ℕ)) (τ : Outcome Sigma) : Type 0 where
+pub record IsTableOne (o : Outcome (List ℕ)) (τ : Outcome Sigma) : Type 0 where
   pub decision : o .answer ≡ τ .answer
   pub next : Same (sigma (state (o .state))) (τ .state)
 
 abbrev pub OpenIsTableOne : Type 0
 OpenIsTableOne =
     (t : List ℕ) (s o x : ℕ) → isSound t ≡ true → s < 32 → o < 64 → x < 8
-    → IsTableOne t (roleStep t (ask 1 s o x)) (tauOpen (permission (state t)) (senior (state t)) (sigma (state t)) s o x)
+    → IsTableOne (roleStep t (ask 1 s o x)) (tauOpen (permission (state t)) (senior (state t)) (sigma (state t)) s o x)
 
 abbrev pub CloseIsTableOne : Type 0
 CloseIsTableOne =
     (t : List ℕ) (s o x : ℕ) → isSound t ≡ true → s < 32 → o < 64 → x < 8
-    → IsTableOne t (roleStep t (ask 2 s o x)) (tauClose (sigma (state t)) s o x)
+    → IsTableOne (roleStep t (ask 2 s o x)) (tauClose (sigma (state t)) s o x)
 
 -- What does a mask of a table in use say? After any list of requests from a sound table its members are exactly the objects that are
 -- effective for the session in the mode (02, S-6) ...

@@ -18,6 +18,7 @@ pub enum Refusal {
     BadPair,
 }
 
+// What a request comes to.
 pub enum Answer {
     Yes,
     No,

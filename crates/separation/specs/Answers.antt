@@ -1,5 +1,6 @@
 -- What the public functions answer, for a list of any length and any number: no, where the list is no table or there is no such
--- pair. `separatedOf` is all that 02, S-4 asks of a table; the others are the part of it that one change can break.
+-- pair. `separatedOf` is all that 02, S-4 asks of a table; the others are the parts of it that one change can break, and whether a set
+-- is in use.
 use Rattle.bits.specs.Words.{ℕ, _+_, Bool, List, ltb, _and_, if_then_else_, has, all}
 use Rattle.table.specs.State.{State}
 use Rattle.table.specs.Authority.{covers}

@@ -36,7 +36,8 @@ heldWithin S s masks = all 8 (λ x. subset (S .holds s x) (masks x))
 unfoldable pub openingsWithin : List ℕ → ℕ → List ℕ → Bool
 openingsWithin t s masks = isTable t and ltb s 32 and heldWithin (state t) s (λ x. getD masks x 0)
 
--- the same of every session, with the masks of all in the order of the table, and its active roles are authorised for it
+-- every session: its word is at most 64, its active roles are authorised for it, and all that it holds open is in its eight of the
+-- masks, which are in the order of the table
 unfoldable pub sessionsWithin : List ℕ → List ℕ → Bool
 sessionsWithin t masks =
     isTable t and all 32 (λ s. leb (state t .owner s) 64 and each (state t .active s) (mayActivate (state t) s) and heldWithin (state t) s (λ x. getD masks (8 * s + x) 0))

@@ -43,117 +43,29 @@ agree-trans a b = agreed (encode-cong a ∙ encode-cong b)
 -- a section replaced by words that agree, in states that agree
 module _ {S S′ : State} (a : Agree S S′) where
   pub agree-set-assigned : {f g : ℕ → ℕ} → ((u : ℕ) → u < 64 → f u ≡ g u) → Agree (setAssigned S f) (setAssigned S′ g)
-  agree-set-assigned e = record {
-    juniors = a .juniors;
-    permitted = a .permitted;
-    assigned = e;
-    granted = a .granted;
-    owner = a .owner;
-    active = a .active;
-    holds = a .holds;
-    sets = a .sets;
-    direct = a .direct;
-    masks = a .masks;
-  }
+  agree-set-assigned e = search e
 
   pub agree-set-granted : {f g : ℕ → ℕ → ℕ} → ((x o : ℕ) → x < 8 → o < 64 → f x o ≡ g x o) → Agree (setGranted S f) (setGranted S′ g)
-  agree-set-granted e = record {
-    juniors = a .juniors;
-    permitted = a .permitted;
-    assigned = a .assigned;
-    granted = e;
-    owner = a .owner;
-    active = a .active;
-    holds = a .holds;
-    sets = a .sets;
-    direct = a .direct;
-    masks = a .masks;
-  }
+  agree-set-granted e = search e
 
   pub agree-set-owner : {f g : ℕ → ℕ} → ((s : ℕ) → s < 32 → f s ≡ g s) → Agree (setOwner S f) (setOwner S′ g)
-  agree-set-owner e = record {
-    juniors = a .juniors;
-    permitted = a .permitted;
-    assigned = a .assigned;
-    granted = a .granted;
-    owner = e;
-    active = a .active;
-    holds = a .holds;
-    sets = a .sets;
-    direct = a .direct;
-    masks = a .masks;
-  }
+  agree-set-owner e = search e
 
   pub agree-set-active : {f g : ℕ → ℕ} → ((s : ℕ) → s < 32 → f s ≡ g s) → Agree (setActive S f) (setActive S′ g)
-  agree-set-active e = record {
-    juniors = a .juniors;
-    permitted = a .permitted;
-    assigned = a .assigned;
-    granted = a .granted;
-    owner = a .owner;
-    active = e;
-    holds = a .holds;
-    sets = a .sets;
-    direct = a .direct;
-    masks = a .masks;
-  }
+  agree-set-active e = search e
 
   pub agree-set-holds : {f g : ℕ → ℕ → ℕ} → ((s x : ℕ) → s < 32 → x < 8 → f s x ≡ g s x) → Agree (setHolds S f) (setHolds S′ g)
-  agree-set-holds e = record {
-    juniors = a .juniors;
-    permitted = a .permitted;
-    assigned = a .assigned;
-    granted = a .granted;
-    owner = a .owner;
-    active = a .active;
-    holds = e;
-    sets = a .sets;
-    direct = a .direct;
-    masks = a .masks;
-  }
+  agree-set-holds e = search e
 
   pub agree-set-sets : {f g : ℕ → ℕ} → ((i : ℕ) → i < 64 → f i ≡ g i) → Agree (setSets S f) (setSets S′ g)
-  agree-set-sets e = record {
-    juniors = a .juniors;
-    permitted = a .permitted;
-    assigned = a .assigned;
-    granted = a .granted;
-    owner = a .owner;
-    active = a .active;
-    holds = a .holds;
-    sets = e;
-    direct = a .direct;
-    masks = a .masks;
-  }
+  agree-set-sets e = search e
 
   pub agree-set-seniority : {f g f′ g′ : ℕ → ℕ} → ((r : ℕ) → r < 64 → f r ≡ f′ r) → ((r : ℕ) → r < 64 → g r ≡ g′ r)
       → Agree (setSeniority S f g) (setSeniority S′ f′ g′)
-  agree-set-seniority e d = record {
-    juniors = e;
-    permitted = a .permitted;
-    assigned = a .assigned;
-    granted = a .granted;
-    owner = a .owner;
-    active = a .active;
-    holds = a .holds;
-    sets = a .sets;
-    direct = d;
-    masks = a .masks;
-  }
+  agree-set-seniority e d = search (e, d)
 
   pub agree-set-masks : {f g : ℕ → ℕ → ℕ} → ((s x : ℕ) → s < 32 → x < 8 → f s x ≡ g s x) → Agree (setMasks S f) (setMasks S′ g)
-  agree-set-masks e = record {
-    juniors = a .juniors;
-    permitted = a .permitted;
-    assigned = a .assigned;
-    granted = a .granted;
-    owner = a .owner;
-    active = a .active;
-    holds = a .holds;
-    sets = a .sets;
-    direct = a .direct;
-    masks = e;
-  }
+  agree-set-masks e = search e
 
   -- one word of it
   pub agree-with-assigned : (u : ℕ) {w w′ : ℕ} → w ≡ w′ → Agree (withAssigned S u w) (withAssigned S′ u w′)
@@ -187,14 +99,6 @@ module _ {S S′ : State} (a : Agree S S′) where
       same p h = upd-agree (S .direct) (S′ .direct) r p e (a .direct p h)
 
 module _ (S : State) where
-  -- openings replaced twice
-  pub agree-holds-twice : (s : ℕ) (f g : ℕ → ℕ) → Agree (withHolds (withHolds S s f) s g) (withHolds S s g)
-  agree-holds-twice s f g =
-      agree-set-holds (agree-refl S) (λ p x h l.
-      by-upd (upd (S .holds) s f) s g (λ (w : ℕ → ℕ). w x ≡ upd (S .holds) s g p x) p
-      (λ e. sym (ap (λ (n : ℕ). upd (S .holds) s g n x) e ∙ ap (λ (w : ℕ → ℕ). w x) (upd-same (S .holds) s g)))
-      (λ n. ap (λ (w : ℕ → ℕ). w x) (upd-other (S .holds) s f p n ∙ sym (upd-other (S .holds) s g p n))))
-
   -- a word replaced by itself
   pub agree-own-assigned : (u : ℕ) {w : ℕ} → w ≡ S .assigned u → Agree (withAssigned S u w) S
   agree-own-assigned u {w} e = agree-set-assigned (agree-refl S) (λ v h. upd-own (S .assigned) u w e v)

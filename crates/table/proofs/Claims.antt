@@ -2,12 +2,17 @@
 use Prim.Native.Nat.{ℕ}
 use mathlib.Core.Path.{sym, ap, _∙_}
 use Rattle.bits.specs.Words.{has}
-use Rattle.table.specs.Claims.{AuthorisedMeans, EffectiveMeans, SeniorityMeans, EveryJuniorLinked, SeparatedMeans, MaskMeans, RefreshedSound, SoundMeans}
+use Rattle.table.specs.Claims.{TableIsState, AuthorisedMeans, EffectiveMeans, SeniorityMeans, EveryJuniorLinked, SeparatedMeans, MaskMeans, RefreshedSound, SoundMeans}
 use Rattle.table.proofs.State.{authorised-intro, authorised-elim, effective-intro, effective-elim}
+use Rattle.table.proofs.Table.{table-length}
+use Rattle.table.proofs.Encode.{encode-state}
 use Rattle.table.proofs.Seniority.{juniors-linked}
 use Rattle.table.proofs.Separation.{separated-intro, separated-elim}
 use Rattle.table.proofs.Masks.{mask-has}
 use Rattle.table.proofs.Sound.{reflexive-elim, transitive-elim, ruled-elim, sound-ruled, sound-masks, sound-intro, refreshed-sound}
+
+pub table-is-state : TableIsState
+table-is-state t i = sym (encode-state t (table-length t i))
 
 pub authorised-means : AuthorisedMeans
 authorised-means S u q = (authorised-elim S u q, authorised-intro S u q)

@@ -5,10 +5,10 @@ use mathlib.Core.Bool.{true, false, not}
 use native.Mathlib.Omega.{arith}
 use borrow.Author.Tests.{ne-eqb}
 use Rattle.bits.specs.Words.{_and_, has, pack}
-use Rattle.bits.specs.Sets.{overlap, Some}
+use Rattle.bits.specs.Sets.{overlap}
 use Rattle.bits.proofs.Truth.{same-truth, and-intro, and-left, and-right, true-and, false-and}
 use Rattle.bits.proofs.Word.{has-pack}
-use Rattle.bits.proofs.Members.{some-intro, some-elim, overlap-intro, overlap-elim}
+use Rattle.bits.proofs.Members.{Some, some-intro, some-elim, overlap-intro, overlap-elim}
 use Rattle.table.specs.State.{State}
 use Rattle.table.specs.Authority.{senior, permission, idle, user, covers, authorised, mayActivate, effective, Authorised, Effective}
 

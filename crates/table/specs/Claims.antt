@@ -1,6 +1,6 @@
 -- What is claimed of the definitions themselves, each as the answer to a question. proofs/Claims.antt proves them.
 use mathlib.Core.Logic.{_↔_}
-use Rattle.bits.specs.Words.{ℕ, _^_, _<_, _≡_, true, has}
+use Rattle.bits.specs.Words.{ℕ, _^_, _<_, _≡_, true, List, has}
 use Rattle.table.specs.State.{State}
 use Rattle.bits.specs.Sets.{_without_}
 use Rattle.closure.specs.Closure.{Reaches}
@@ -8,7 +8,13 @@ use Rattle.table.specs.Authority.{senior, authorised, effective, Authori
 use Rattle.table.specs.Seniority.{links, Linked}
 use Rattle.table.specs.Separation.{separated, Separated}
 use Rattle.table.specs.Masks.{refreshed}
+use Rattle.table.specs.Table.{isTable, encode}
+use Rattle.table.specs.Reading.{state}
 use Rattle.table.specs.Sound.{reflexive, transitive, ruled, sound, Sound}
+
+-- Does a table hold anything besides the state that it shows? Not one word: two tables that show the same state are the same.
+abbrev pub TableIsState : Type 0
+TableIsState = (t : List ℕ) → isTable t ≡ true → encode (state t) ≡ t
 
 -- When is a role authorised for a user? Exactly when some role assigned to the user is senior to it or is it.
 abbrev pub AuthorisedMeans : Type 0

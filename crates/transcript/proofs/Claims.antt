@@ -23,7 +23,8 @@ use Rattle.ledger.proofs.Showing.{labels-intro, line-shows}
 use Rattle.ledger.proofs.Contents.{SameIn, line-matches}
 use Rattle.transcript.specs.Stream.{Standing, standing, started, after, emitted, closing, serving}
 use Rattle.transcript.specs.Document.{Result, linesOf, results, rows, blank, replies, output}
-use Rattle.transcript.specs.Claims.{begun, OutputIs, Calls, none, call, BlocksDoNotMatter, NeverShown, SoundForGood}
+use Rattle.transcript.specs.Claims.{begun, OutputIs, Calls, none, call, GetsOn, BlocksDoNotMatter, NeverShown, SoundForGood}
+use Rattle.transcript.proofs.Serving.{not-full, serving-reads}
 use Rattle.transcript.proofs.Pieces.{after-append, emitted-append, serving-splits}
 use Rattle.transcript.proofs.Whole.{written-is}
 use Rattle.transcript.proofs.Guarding.{agrees}
@@ -126,3 +127,6 @@ pub sound-for-good : SoundForGood
 sound-for-good table l =
     let a = agrees (begun table) l (blank-sound table) in
     rw (a .0) (a .2)
+
+pub gets-on : GetsOn
+gets-on room p b block r n = serving-reads unguarded room p b block (not-full room (p .number) r (λ e. omega arith))

@@ -47,6 +47,15 @@ module _ (G : Guards) (room : ℕ) where
   serving-open p [] h = refl
   serving-open p (b ∷ l) h = if-false _ _ (and-false true h) ∙ sym (if-false _ _ (false-and _ refl))
 
+  -- with a byte to read and no refusal to go on it is read
+  read-on : (p : Standing) (b : ℕ) (l : List ℕ) → 1 ≤ serving G room false p (b ∷ l) .read
+  unfolding serving
+  read-on p b l =
+      rw (if-false _ _ (false-and _ refl)) (by-truth (eqb b 10) (λ e. rw (if-true _ _ e) (omega arith)) (λ e. rw (if-false _ _ e) (omega arith)))
+
+  pub serving-reads : (p : Standing) (b : ℕ) (l : List ℕ) → full room (p .number) ≡ false → 1 ≤ serving G room true p (b ∷ l) .read
+  serving-reads p b l h = rw (serving-open p (b ∷ l) h) (read-on p b l)
+
   -- ---- no newline
 
   serving-byte : (p : Standing) (b : ℕ) (l : List ℕ) → eqb b 10 ≡ false → serving G room false p (b ∷ l) ≡ ahead 1 [] (serving G room false (reading p (stepOf (p .reader) b)) l)

@@ -1,8 +1,9 @@
 -- What is claimed of transcripts, each as the answer to a question. proofs/Claims.antt proves them.
-use Rattle.bits.specs.Words.{ℕ, _≡_, true, List, [], _++_, List·Memᴰ}
+use Prim.Native.Nat.{_≤_}
+use Rattle.bits.specs.Words.{ℕ, _-_, _^_, _<_, _≡_, true, List, [], _∷_, _++_, List·Memᴰ}
 use lib.ListN.{drop}
 use Rattle.table.specs.Table.{isTable}
-use Rattle.output.specs.Text.{header}
+use Rattle.output.specs.Text.{header, rowRoom}
 use Rattle.lines.specs.declared.Reader.the-variants.{Letters}
 use Rattle.ledger.specs.Step.{unguarded}
 use Rattle.ledger.specs.Claims.{StoreSound, shows}
@@ -30,6 +31,13 @@ pub data Calls : Standing → List ℕ → List ℕ → Standing → Type 0 wher
   call : {p q : Standing} {written : List ℕ} (block more : List ℕ) (room : ℕ)
       → Calls (serving unguarded room true p block .stands) (drop (serving unguarded room true p block .read) block ++ more) written q
       → Calls p (block ++ more) (serving unguarded room true p block .wrote ++ written) q
+
+-- Does a call get on? With a byte to read, room for a row and a line number that is not the last one it reads at least one byte, so
+-- that calls with room use an input up.
+abbrev pub GetsOn : Type 0
+GetsOn =
+    (room : ℕ) (p : Standing) (b : ℕ) (block : List ℕ) → rowRoom ≤ room → p .number < 2 ^ 64 - 1
+    → 1 ≤ serving unguarded room true p (b ∷ block) .read
 
 -- Does it matter in what blocks input and output go? No: whatever the blocks and the lent table, the bytes written are the
 -- output.
