@@ -1,15 +1,18 @@
 //! `compare long SECONDS [SEED]`: random cases of every kind for so long, with progress on standard error.
 //! `compare count ROUNDS [SEED]`: how many of so many cases of each kind tell two guards apart.
+//! `compare caught ROUNDS [SEED]`: the first round of one case of each kind in which a case does; a failure where none does.
 //! `compare replay FILE`: a case as it was printed, or a transcript, once more.
+//! `compare turns`: the wrong turns that are built into the second implementation, none but in the program of `rust/wrong-turns`.
 
 use compare::{
     check, check_transcript, compare, damaged, difference, likeness, links, random_transcript, readers, requests,
-    set_ups, Case, Layer, Random, Reached, GUARDS,
+    set_ups, Case, Layer, Random, Reached, Reader, GUARDS,
 };
 use std::process::ExitCode;
 use std::time::{Duration, Instant};
 
-const USAGE: &str = "usage: compare long SECONDS [SEED] | compare count ROUNDS [SEED] | compare replay FILE";
+const USAGE: &str =
+    "usage: compare long SECONDS [SEED] | count ROUNDS [SEED] | caught ROUNDS [SEED] | replay FILE | turns";
 
 fn main() -> ExitCode {
     let arguments: Vec<String> = std::env::args().skip(1).collect();
@@ -19,7 +22,10 @@ fn main() -> ExitCode {
         ["long", seconds, seed] => long(seconds, seed),
         ["count", rounds] => count(rounds, "1"),
         ["count", rounds, seed] => count(rounds, seed),
+        ["caught", rounds] => caught(rounds, "1"),
+        ["caught", rounds, seed] => caught(rounds, seed),
         ["replay", file] => replay(file),
+        ["turns"] => Ok(reference::TURNS.join("\n")),
         _ => Err(USAGE.to_string()),
     };
     match outcome {
@@ -73,24 +79,33 @@ const KINDS: [(&str, Make); 6] = [
     ("likeness", likeness),
 ];
 
-/// Counts the cases of each kind that tell two guards apart; an error where there is one.
+/// The kinds whose case of a round, which its seed makes, tells two guards apart.
+fn apart(seed: u64, readers: &[Reader]) -> Vec<&'static str> {
+    let (mut random, mut reached) = (Random::new(seed), Reached::default());
+    let differs = |(_, make): &(_, Make)| compare(&make(&mut random), GUARDS, &mut reached).is_err();
+    let mut kinds: Vec<&str> = KINDS.into_iter().filter(differs).map(|(kind, _)| kind).collect();
+    if difference(&random_transcript(&mut random), readers).is_some() {
+        kinds.push("transcripts");
+    }
+    kinds
+}
+
+/// The first of so many rounds with a case that tells two guards apart, and its kinds; an error where there is none.
+fn caught(rounds: &str, seed: &str) -> Result<String, String> {
+    let (rounds, first, readers) = (number(rounds)?, number(seed)?, readers());
+    let mut found = (first..first + rounds).map(|seed| (seed, apart(seed, &readers)));
+    let found = found.find(|(_, kinds)| !kinds.is_empty());
+    let said = found.map(|(seed, kinds)| format!("seed {seed}: {}", kinds.join(", ")));
+    said.ok_or_else(|| format!("no case of {rounds} rounds tells two guards apart"))
+}
+
+/// Counts the cases of each kind that tell two guards apart.
 fn count(rounds: &str, seed: &str) -> Result<String, String> {
-    let rounds = number(rounds)?;
-    let mut random = Random::new(number(seed)?);
-    let (mut reached, readers) = (Reached::default(), readers());
-    let mut counts = Vec::new();
-    for (kind, make) in KINDS {
-        let differs = |_: &u64| compare(&make(&mut random), GUARDS, &mut reached).is_err();
-        counts.push((kind, (0..rounds).filter(differs).count()));
-    }
-    let differs = |_: &u64| difference(&random_transcript(&mut random), &readers).is_some();
-    counts.push(("transcripts", (0..rounds).filter(differs).count()));
-    let said: Vec<String> = counts.iter().map(|(kind, count)| format!("{kind} {count}")).collect();
-    let said = format!("of {rounds} cases of each kind differ: {}", said.join(", "));
-    match counts.iter().all(|(_, count)| *count == 0) {
-        true => Ok(said),
-        false => Err(said),
-    }
+    let (rounds, first, readers) = (number(rounds)?, number(seed)?, readers());
+    let found: Vec<&str> = (first..first + rounds).flat_map(|seed| apart(seed, &readers)).collect();
+    let kinds = KINDS.iter().map(|(kind, _)| *kind).chain(["transcripts"]);
+    let counts = kinds.map(|kind| format!("{kind} {}", found.iter().filter(|found| **found == kind).count()));
+    Ok(format!("of {rounds} cases of each kind differ: {}", counts.collect::<Vec<String>>().join(", ")))
 }
 
 /// A case, and where no line of it is beyond a transcript the transcript too.

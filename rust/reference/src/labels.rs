@@ -2,9 +2,10 @@
 
 use crate::requests::{below, unlisted};
 use crate::seniority::between_others;
-use crate::state::{seconds, Mode, Object, Session, State, User, OBJECTS, SESSIONS, USERS};
+use crate::state::{seconds, Mode, Object, Role, Session, State, User, OBJECTS, SESSIONS, USERS};
 use crate::turns::turn;
 use std::collections::{BTreeMap, BTreeSet};
+use std::sync::OnceLock;
 
 /// A label: a class 0 to 3 and a set of three brands.
 #[derive(Clone, Copy, Debug, PartialEq, Eq)]
@@ -53,7 +54,7 @@ impl Label {
     /// How the label stands to another. The one dominates whose class is at least the other's and whose set holds all of
     /// the other's brands; the wrong turn asks for a higher class.
     pub fn stands(self, other: Label) -> Standing {
-        let reaches = |class: u64, of: u64| turn!("wrong-above-by-class", class >= of, class > of);
+        let reaches = |class: u64, of: u64| turn!(above_by_class, class >= of, class > of);
         let holds = |set: [bool; 3], all_of: [bool; 3]| (0..3).all(|brand| set[brand] || !all_of[brand]);
         if self == other {
             Standing::Equal
@@ -66,11 +67,11 @@ impl Label {
         }
     }
 
-    fn read_role(self) -> u64 {
+    fn read_role(self) -> Role {
         self.0
     }
 
-    fn write_role(self) -> u64 {
+    fn write_role(self) -> Role {
         32 + self.0
     }
 }
@@ -78,7 +79,7 @@ impl Label {
 impl Standing {
     /// Whether the first label dominates the second; the wrong turn lets labels pass that are apart.
     pub fn equal_or_above(self) -> bool {
-        turn!("wrong-not-below", matches!(self, Standing::Equal | Standing::Above), self != Standing::Below)
+        turn!(not_below, matches!(self, Standing::Equal | Standing::Above), self != Standing::Below)
     }
 
     /// The number that the comparison of two labels answers with.
@@ -95,11 +96,11 @@ impl Standing {
 /// A machine state.
 #[derive(Clone, Debug, PartialEq, Eq)]
 pub struct Machine {
-    clearances: BTreeMap<User, Label>,
-    labels: BTreeMap<Object, Label>,
+    pub clearances: BTreeMap<User, Label>,
+    pub labels: BTreeMap<Object, Label>,
     /// The user and the level of each session that is not idle.
-    sessions: BTreeMap<Session, (User, Label)>,
-    openings: BTreeSet<(Session, Mode, Object)>,
+    pub sessions: BTreeMap<Session, (User, Label)>,
+    pub openings: BTreeSet<(Session, Mode, Object)>,
 }
 
 impl Machine {
@@ -122,7 +123,7 @@ impl Machine {
             }
             3 => {
                 let (s, u, y) = (below(a, SESSIONS)?, below(b, USERS)?, below(c, LABELS)?);
-                let figure = turn!("wrong-start-spends-three", 1, if self.sessions.contains_key(&s) { 1 } else { 3 });
+                let figure = turn!(start_spends_three, 1, if self.sessions.contains_key(&s) { 1 } else { 3 });
                 Ok((self.start(s, u, Label(y)), figure))
             }
             4 => {
@@ -171,7 +172,7 @@ impl Machine {
 
     fn reclear(&mut self, u: User, c: Label) -> (bool, u64) {
         if self.clearances.get(&u) == Some(&c) {
-            return turn!("wrong-reclear-same", (true, 0), self.reclear_same(u));
+            return turn!(reclear_same, (true, 0), self.reclear_same(u));
         }
         let mut seats = self.sessions.values().filter(|(user, _)| *user == u);
         let yes = seats.all(|(_, level)| c.stands(*level).equal_or_above());
@@ -181,31 +182,12 @@ impl Machine {
         (yes, if yes { 2 } else { 3 })
     }
 
-    /// Reclearing to the clearance that a user has by adding the role and removing it, for the wrong turn.
-    #[cfg(feature = "wrong-reclear-same")]
-    fn reclear_same(&mut self, u: User) -> (bool, u64) {
-        if self.sessions.values().any(|(user, _)| *user == u) {
-            return (false, 3);
-        }
-        self.clearances.remove(&u);
-        (true, 2)
-    }
-
     /// The RBAC96 state that stands for the machine, after Osborn, Sandhu and Munawer.
     pub fn image(&self) -> State {
-        let mut state = State { openings: self.openings.clone(), ..State::default() };
-        for l in Label::all() {
-            for k in Label::all() {
-                if l.stands(k).equal_or_above() {
-                    state.seniority.insert((l.read_role(), k.read_role()));
-                }
-                if written(k, l).equal_or_above() {
-                    state.seniority.insert((l.write_role(), k.write_role()));
-                }
-            }
-        }
+        let seniority = label_seniority().clone();
         // every junior but the role itself is a direct one
-        state.direct = between_others(&state.seniority);
+        let direct = between_others(&seniority);
+        let mut state = State { seniority, direct, openings: self.openings.clone(), ..State::default() };
         for (u, clearance) in &self.clearances {
             state.assigned.insert((*u, clearance.read_role()));
         }
@@ -216,10 +198,10 @@ impl Machine {
         }
         for (s, (u, level)) in &self.sessions {
             state.users.insert(*s, *u);
-            let roles = turn!("wrong-start-reads-only", [level.read_role(), level.write_role()], [level.read_role()]);
-            state.active.extend(roles.map(|r| (*s, r)));
+            state.active.insert((*s, level.read_role()));
+            turn!(start_reads_only, state.active.insert((*s, level.write_role())), false);
         }
-        turn!("wrong-image-without-masks", state.refresh(), ());
+        turn!(image_without_masks, state.refresh(), ());
         state
     }
 
@@ -238,14 +220,26 @@ impl Machine {
             openings: state.openings.clone(),
         };
         let image = machine.image();
-        let image = turn!("wrong-image-any-links", image, State { direct: state.direct.clone(), ..image });
+        let image = turn!(image_any_links, image, State { direct: state.direct.clone(), ..image });
         (image == *state).then_some(machine)
     }
 }
 
+/// The seniority of the reading and the writing roles: the same in every image, and worked out once.
+fn label_seniority() -> &'static BTreeSet<(Role, Role)> {
+    static SENIORITY: OnceLock<BTreeSet<(Role, Role)>> = OnceLock::new();
+    SENIORITY.get_or_init(|| {
+        let pairs = || Label::all().flat_map(|l| Label::all().map(move |k| (l, k)));
+        let reads = pairs().filter(|(l, k)| l.stands(*k).equal_or_above());
+        let writes = pairs().filter(|(l, k)| written(*k, *l).equal_or_above());
+        let reads = reads.map(|(l, k)| (l.read_role(), k.read_role()));
+        reads.chain(writes.map(|(l, k)| (l.write_role(), k.write_role()))).collect()
+    })
+}
+
 /// How the label of what is written stands to the level of the session; the wrong turn has it write down.
 fn written(label: Label, level: Label) -> Standing {
-    turn!("wrong-write-like-read", label.stands(level), level.stands(label))
+    turn!(write_like_read, label.stands(level), level.stands(label))
 }
 
 /// The label whose reading role is the only one among the roles.

@@ -17,12 +17,14 @@ mod state;
 mod table;
 pub mod transcript;
 mod turns;
+#[cfg(feature = "wrong-turn")]
+mod wrong;
 
 pub use labels::{Label, Machine, Standing};
 pub use separation::Separation;
 pub use state::State;
 pub use table::WORDS;
-pub use turns::WRONG;
+pub use turns::{TURNS, WRONG};
 
 /// Yes or no, or the number of a refusal.
 pub type Answer = Result<bool, u64>;

@@ -8,9 +8,8 @@ impl State {
     /// What the masks have to be. The wrong turns leave the juniors of the active roles out, or take all roles that the user of
     /// a session is authorised for.
     fn worked_out(&self) -> BTreeSet<(Session, Mode, Object)> {
-        let pairs = |s| turn!("wrong-masks-without-juniors", self.effective(s), self.granted_to(&self.active_in(s)));
-        let pairs =
-            |s| turn!("wrong-masks-of-authorised", pairs(s), &pairs(s) | &self.granted_to(&self.authorised_for(s)));
+        let pairs = |s| turn!(masks_without_juniors, self.effective(s), self.granted_to(&self.active_in(s)));
+        let pairs = |s| turn!(masks_of_authorised, pairs(s), &pairs(s) | &self.granted_to(&self.authorised_for(s)));
         (0..SESSIONS).flat_map(|s| pairs(s).into_iter().map(move |(x, o)| (s, x, o))).collect()
     }
 
@@ -21,15 +20,9 @@ impl State {
 
     /// Whether the masks are what they have to be; the wrong turns let them be less, or more, or anything in an idle session.
     pub fn masks_are_true(&self) -> bool {
-        let masks = turn!("wrong-idle-masks", self.masks.clone(), self.masks_in_use());
+        let masks = turn!(idle_masks, self.masks.clone(), self.masks_in_use());
         let anew = self.worked_out();
-        let are_true = turn!("wrong-masks-short", masks == anew, masks.is_subset(&anew));
-        turn!("wrong-masks-beyond", are_true, are_true || masks.is_superset(&anew))
-    }
-
-    /// The masks of the sessions that are not idle, for the wrong turn.
-    #[cfg(feature = "wrong-idle-masks")]
-    fn masks_in_use(&self) -> BTreeSet<(Session, Mode, Object)> {
-        self.masks.iter().copied().filter(|(s, _, _)| !self.is_idle(*s)).collect()
+        let are_true = turn!(masks_short, masks == anew, masks.is_subset(&anew));
+        turn!(masks_beyond, are_true, are_true || masks.is_superset(&anew))
     }
 }

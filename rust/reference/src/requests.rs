@@ -5,11 +5,11 @@ use crate::state::{Mode, Object, Role, Session, State, User, MODES, OBJECTS, ROL
 use crate::table::members;
 use crate::turns::turn;
 use crate::Answer;
-use std::collections::BTreeMap;
+use std::collections::{BTreeMap, BTreeSet};
 
 /// A role request whose arguments are in range.
 #[derive(Clone, Copy, Debug)]
-enum Request {
+pub enum Request {
     Open(Session, Object, Mode),
     Close(Session, Object, Mode),
     /// The last is a mask of roles, any number.
@@ -50,7 +50,7 @@ pub fn unlisted(arguments: &[u64]) -> Result<(), u64> {
 
 impl Request {
     /// Refusal 15 for a code, then 16 for an argument.
-    fn of(code: u64, [a, b, c]: [u64; 3]) -> Result<Request, u64> {
+    pub fn of(code: u64, [a, b, c]: [u64; 3]) -> Result<Request, u64> {
         let request = match code {
             1 => Request::Open(below(a, SESSIONS)?, below(b, OBJECTS)?, below(c, MODES)?),
             2 => Request::Close(below(a, SESSIONS)?, below(b, OBJECTS)?, below(c, MODES)?),
@@ -75,22 +75,12 @@ impl Request {
         }
         Ok(request)
     }
-
-    /// The request with its pair looked at before its arguments' ranges, for the wrong turn.
-    #[cfg(feature = "wrong-pair-before-range")]
-    fn of_pair(code: u64, [a, b, c]: [u64; 3]) -> Result<Request, u64> {
-        match code {
-            11 | 12 if Separation::of(b, c).is_bad() => Err(21),
-            _ => Request::of(code, [a, b, c]),
-        }
-    }
 }
 
 impl State {
     /// A role request on a sound state: refusals 15, 16, 21 and 17, then yes or no.
     pub fn request(&mut self, code: u64, arguments: [u64; 3]) -> Answer {
-        let request =
-            turn!("wrong-pair-before-range", Request::of(code, arguments), Request::of_pair(code, arguments))?;
+        let request = turn!(pair_before_range, Request::of(code, arguments), Request::of_pair(code, arguments))?;
         match request {
             Request::StaticSet(_, mask, bound) | Request::DynamicSet(_, mask, bound)
                 if Separation::of(mask, bound).is_bad() =>
@@ -108,77 +98,24 @@ impl State {
         next.spoil_masks(self, request);
         let yes = self.allows(request, &next);
         if yes {
-            *self = turn!("wrong-unlink-keeps-rows", next, self.with_old_rows(request, next));
+            *self = turn!(unlink_keeps_rows, next, self.with_old_rows(request, next));
         }
-        #[cfg(feature = "wrong-bound-left")]
-        self.leave_bound(request);
-        #[cfg(feature = "wrong-link-left")]
-        self.leave_link(request);
+        #[cfg(feature = "wrong-turn")]
+        self.leave_behind(request);
         Ok(yes)
-    }
-
-    /// Leaves the masks of some sessions as they were before the request, for the wrong turns, or takes a pair from all of them.
-    #[cfg(feature = "wrong-turn")]
-    fn spoil_masks(&mut self, before: &State, request: Request) {
-        let first = self.masks.difference(&before.masks).next().map(|(s, _, _)| *s);
-        let is_left = |s: Session| match request {
-            _ if cfg!(feature = "wrong-last-session-masks") => s == SESSIONS - 1,
-            Request::Start(started, ..) => cfg!(feature = "wrong-start-masks-early") && s == started,
-            Request::Activate(named, _) => cfg!(feature = "wrong-activate-masks-early") && s == named,
-            Request::End(ended) => cfg!(feature = "wrong-end-keeps-masks") && s == ended,
-            Request::Grant(..) if cfg!(feature = "wrong-grant-one-session") => Some(s) != first,
-            Request::Grant(r, ..) => cfg!(feature = "wrong-grant-without-seniors") && !before.active.contains(&(s, r)),
-            Request::Link(..) => cfg!(feature = "wrong-link-keeps-masks"),
-            Request::Unlink(..) => cfg!(feature = "wrong-unlink-keeps-masks"),
-            _ => false,
-        };
-        self.masks.retain(|(s, _, _)| !is_left(*s));
-        self.masks.extend(before.masks.iter().filter(|(s, _, _)| is_left(*s)));
-        if let (Request::Revoke(_, x, o), true) = (request, cfg!(feature = "wrong-revoke-takes-all")) {
-            self.masks.retain(|(_, mode, object)| (*mode, *object) != (x, o));
-        }
-    }
-
-    /// Leaves the bound of a set whatever the answer was, for the wrong turn.
-    #[cfg(feature = "wrong-bound-left")]
-    fn leave_bound(&mut self, request: Request) {
-        let (sets, number, bound) = match request {
-            Request::StaticSet(number, _, bound) => (&mut self.static_sets, number, bound),
-            Request::DynamicSet(number, _, bound) => (&mut self.dynamic_sets, number, bound),
-            _ => return,
-        };
-        sets.entry(number).or_default().bound = bound;
-        sets.retain(|_, set| !set.is_empty());
-    }
-
-    /// Leaves the direct junior of a link whatever the answer was, for the wrong turn.
-    #[cfg(feature = "wrong-link-left")]
-    fn leave_link(&mut self, request: Request) {
-        if let Request::Link(r, q) = request {
-            self.direct.insert((r, q));
-        }
-    }
-
-    /// The state after an unlink with the seniority from before it, for the wrong turn.
-    #[cfg(feature = "wrong-unlink-keeps-rows")]
-    fn with_old_rows(&self, request: Request, next: State) -> State {
-        match request {
-            Request::Unlink(..) => State { seniority: self.seniority.clone(), ..next },
-            _ => next,
-        }
     }
 
     /// The column "yes when".
     fn allows(&self, request: Request, next: &State) -> bool {
-        let is_sound = || turn!("wrong-judged-with-old-masks", next.is_sound(), next.with_masks_of(self).is_sound());
+        let is_sound = || turn!(judged_with_old_masks, next.is_sound(), next.with_masks_of(self).is_sound());
         match request {
             Request::Open(s, o, x) => self.masks.contains(&(s, x, o)),
             Request::Start(s, u, mask) => self.is_idle(s) && self.are_authorised(u, mask) && next.is_separated(),
             Request::End(s) => !self.is_idle(s),
             Request::Activate(s, r) => self.authorised_for(s).contains(&r) && next.is_separated(),
             Request::Assign(..) => next.is_separated(),
-            Request::Deassign(..) => turn!("wrong-deassign-direct", is_sound(), !self.has_active(request)),
-            Request::Drop(..) => turn!("wrong-drop-by-old-masks", is_sound(), self.openings.is_subset(&self.masks)),
+            Request::Deassign(..) => turn!(deassign_direct, is_sound(), !self.has_active(request)),
+            Request::Drop(..) => turn!(drop_by_old_masks, is_sound(), self.openings.is_subset(&self.masks)),
             Request::Revoke(..) | Request::StaticSet(..) | Request::DynamicSet(..) => is_sound(),
             Request::Link(r, q) => self.may_link(r, q, next),
             Request::Unlink(r, q) => self.may_unlink(r, q, next),
@@ -186,24 +123,11 @@ impl State {
         }
     }
 
-    /// The state with the masks of another, for the wrong turn.
-    #[cfg(feature = "wrong-judged-with-old-masks")]
-    fn with_masks_of(&self, other: &State) -> State {
-        State { masks: other.masks.clone(), ..self.clone() }
-    }
-
     /// Whether every role of the mask is authorised for the user.
     fn are_authorised(&self, u: User, mask: u64) -> bool {
-        let may = turn!("wrong-start-by-assigned", self.authorised(u), self.assigned_to(u));
+        let may = turn!(start_by_assigned, self.authorised(u), self.assigned_to(u));
         let mut roles = members(mask).into_iter();
-        turn!("wrong-start-some-role", roles.all(|r| may.contains(&r)), roles.any(|r| may.contains(&r)))
-    }
-
-    /// Whether the user who is deassigned a role has it active in a session, for the wrong turn.
-    #[cfg(feature = "wrong-deassign-direct")]
-    fn has_active(&self, request: Request) -> bool {
-        let has = |s, u| matches!(request, Request::Deassign(user, r) if user == u && self.active.contains(&(s, r)));
-        self.users.iter().any(|(s, u)| has(*s, *u))
+        turn!(start_some_role, roles.all(|r| may.contains(&r)), roles.any(|r| may.contains(&r)))
     }
 
     /// The column "effect of yes".
@@ -219,8 +143,8 @@ impl State {
             Request::Start(s, u, mask) => {
                 next.users.insert(s, u);
                 let roles = members(mask).into_iter();
-                let roles = turn!("wrong-start-with-juniors", roles, roles.flat_map(|r| self.juniors(r)));
-                next.active.extend(roles.map(|r| (s, r)));
+                let roles: BTreeSet<Role> = turn!(start_with_juniors, roles.collect(), self.with_juniors(roles));
+                next.active.extend(roles.into_iter().map(|r| (s, r)));
             }
             Request::End(s) => {
                 next.users.remove(&s);

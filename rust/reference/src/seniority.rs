@@ -37,12 +37,11 @@ pub fn between_others(relation: &BTreeSet<(Role, Role)>) -> BTreeSet<(Role, Role
 impl State {
     /// Puts role r directly above q.
     pub fn link(&mut self, r: Role, q: Role) {
-        #[cfg(feature = "wrong-link-unrecorded")]
-        if self.seniority.contains(&(r, q)) {
-            return;
+        let is_recorded = turn!(link_unrecorded, true, !self.seniority.contains(&(r, q)));
+        if is_recorded {
+            self.direct.insert((r, q));
         }
-        self.direct.insert((r, q));
-        self.seniority = turn!("wrong-link-row-alone", closure(&self.direct), self.with_row_joined(r, q));
+        self.seniority = turn!(link_row_alone, closure(&self.direct), self.with_row_joined(r, q));
     }
 
     /// Takes the direct link from r to q away.
@@ -53,43 +52,16 @@ impl State {
 
     /// A link, with the state after it: r is not q, q is not senior to r, and no separation set breaks.
     pub fn may_link(&self, r: Role, q: Role, next: &State) -> bool {
-        #[cfg(feature = "wrong-link-indirect-refused")]
-        if self.seniority.contains(&(r, q)) && !self.direct.contains(&(r, q)) {
-            return false;
-        }
-        let is_separated =
-            turn!("wrong-link-assigned-users", next.is_separated(), next.of_users_assigned(r).is_separated());
-        r != q && !self.seniority.contains(&(q, r)) && is_separated
+        let is_separated = turn!(link_assigned_users, next.is_separated(), next.of_users_assigned(r).is_separated());
+        let is_taken = turn!(link_indirect_refused, true, !self.is_indirect(r, q));
+        r != q && !self.seniority.contains(&(q, r)) && is_separated && is_taken
     }
 
     /// An unlink, with the state after it: there is the direct link, and without it the state is sound.
     pub fn may_unlink(&self, r: Role, q: Role, next: &State) -> bool {
-        #[cfg(feature = "wrong-unlink-other-chain")]
-        if next.seniority.contains(&(r, q)) {
-            return false;
-        }
         let is_there = self.direct.contains(&(r, q));
-        let is_sound = turn!("wrong-unlink-openings", next.is_sound(), next.without_openings().is_sound());
-        turn!("wrong-unlink-absent", is_there && is_sound, !is_there || is_sound)
-    }
-
-    /// Seniority with the juniors of q joined to those of r and of no role above r, for the wrong turn.
-    #[cfg(feature = "wrong-link-row-alone")]
-    fn with_row_joined(&self, r: Role, q: Role) -> BTreeSet<(Role, Role)> {
-        self.seniority.iter().copied().chain(self.juniors(q).map(|p| (r, p))).collect()
-    }
-
-    /// The state with the assignments of those users alone who are assigned the role, for the wrong turn.
-    #[cfg(feature = "wrong-link-assigned-users")]
-    fn of_users_assigned(&self, r: Role) -> State {
-        let mut state = self.clone();
-        state.assigned.retain(|(u, _)| self.assigned.contains(&(*u, r)));
-        state
-    }
-
-    /// The state with nothing open, for the wrong turn.
-    #[cfg(feature = "wrong-unlink-openings")]
-    fn without_openings(&self) -> State {
-        State { openings: BTreeSet::new(), ..self.clone() }
+        let is_sound = turn!(unlink_openings, next.is_sound(), next.without_openings().is_sound());
+        let is_left = turn!(unlink_other_chain, true, !next.seniority.contains(&(r, q)));
+        is_left && turn!(unlink_absent, is_there && is_sound, !is_there || is_sound)
     }
 }

@@ -25,13 +25,13 @@ impl Separation {
 
     /// Error 21: not empty, and the bound is below 2 or above the number of roles.
     pub fn is_bad(&self) -> bool {
-        let most = turn!("wrong-bound-of-all-refused", self.roles.len(), self.roles.len().saturating_sub(1)) as u64;
+        let most = turn!(bound_of_all_refused, self.roles.len(), self.roles.len().saturating_sub(1)) as u64;
         !self.is_empty() && !(2..=most).contains(&self.bound)
     }
 
     /// Whether the given roles include fewer of the set's than its bound; an empty pair always holds.
     pub fn holds(&self, roles: &BTreeSet<Role>) -> bool {
         let together = self.roles.intersection(roles).count() as u64;
-        self.is_empty() || turn!("wrong-bound-reached", together < self.bound, together <= self.bound)
+        self.is_empty() || turn!(bound_reached, together < self.bound, together <= self.bound)
     }
 }

@@ -3,7 +3,7 @@
 use crate::labels::{Label, Machine};
 use crate::seniority::{between_others, closure, is_antisymmetric};
 use crate::state::{Mode, Object, Role, State};
-use crate::table::members;
+use crate::table::relation;
 use crate::turns::turn;
 use std::collections::{BTreeMap, BTreeSet};
 
@@ -23,20 +23,14 @@ pub fn roles_from_words(juniors: &[u64], permissions: &[u64]) -> Result<State, u
     roles(&relation(juniors), relation(permissions))
 }
 
-/// The pairs of a place in the list and a member of the word there.
-fn relation(words: &[u64]) -> BTreeSet<(u64, u64)> {
-    let row = |(at, word): (u64, &u64)| members(*word).into_iter().map(move |member| (at, member));
-    (0..).zip(words).flat_map(row).collect()
-}
-
 /// The state of a role set-up; refusal 20 when two different roles lead to each other. A role's link to itself is ignored.
 pub fn roles(given: &BTreeSet<(Role, Role)>, permissions: BTreeSet<(Mode, Object)>) -> Result<State, u64> {
-    let direct = turn!("wrong-setup-own-links", between_others(given), &between_others(given) | given);
+    let direct = turn!(setup_own_links, between_others(given), &between_others(given) | given);
     let seniority = closure(&direct);
     if !is_antisymmetric(&seniority) {
         return Err(20);
     }
-    let direct = turn!("wrong-setup-all-juniors", direct, between_others(&seniority));
+    let direct = turn!(setup_all_juniors, direct, between_others(&seniority));
     Ok(State { seniority, direct, permissions, ..State::default() })
 }
 

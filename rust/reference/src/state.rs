@@ -56,23 +56,15 @@ impl State {
         seconds(&self.seniority, r)
     }
 
-    /// Role r and all roles that are senior to it, for the wrong turns.
-    #[cfg(any(feature = "wrong-authorised-upwards", feature = "wrong-permissions-from-seniors"))]
-    fn seniors(&self, r: Role) -> impl Iterator<Item = Role> + '_ {
-        let above = self.seniority.iter().filter(move |(_, junior)| *junior == r);
-        above.map(|(senior, _)| *senior)
-    }
-
-    /// The roles assigned to a user without their juniors, for the wrong turns.
-    #[cfg(any(feature = "wrong-start-by-assigned", feature = "wrong-static-by-assigned"))]
-    pub fn assigned_to(&self, u: User) -> BTreeSet<Role> {
-        seconds(&self.assigned, u).collect()
+    /// The roles and all their juniors.
+    pub fn with_juniors(&self, roles: impl Iterator<Item = Role>) -> BTreeSet<Role> {
+        roles.flat_map(|r| self.juniors(r)).collect()
     }
 
     /// The roles assigned to a user, and all their juniors.
     pub fn authorised(&self, u: User) -> BTreeSet<Role> {
-        let covered = |r| turn!("wrong-authorised-upwards", self.juniors(r), self.seniors(r));
-        seconds(&self.assigned, u).flat_map(covered).collect()
+        let assigned = seconds(&self.assigned, u);
+        turn!(authorised_upwards, self.with_juniors(assigned), self.with_seniors(assigned))
     }
 
     /// The authorised roles of the user of a session; an idle session has none.
@@ -88,16 +80,10 @@ impl State {
         seconds(&self.active, s).collect()
     }
 
-    /// The active roles of a session and all their juniors, for the wrong turn.
-    #[cfg(feature = "wrong-dynamic-with-juniors")]
-    fn covered_in(&self, s: Session) -> BTreeSet<Role> {
-        seconds(&self.active, s).flat_map(|r| self.juniors(r)).collect()
-    }
-
     /// The permissions granted to an active role of a session or to a junior of one.
     pub fn effective(&self, s: Session) -> BTreeSet<(Mode, Object)> {
-        let covered = |r| turn!("wrong-permissions-from-seniors", self.juniors(r), self.seniors(r));
-        self.granted_to(&seconds(&self.active, s).flat_map(covered).collect())
+        let active = seconds(&self.active, s);
+        self.granted_to(&turn!(permissions_from_seniors, self.with_juniors(active), self.with_seniors(active)))
     }
 
     /// The permissions granted to one of the roles.
@@ -132,21 +118,21 @@ impl State {
     }
 
     fn is_transitive(&self) -> bool {
-        let goes_on = |(r, q): &(Role, Role)| self.juniors(*q).all(|p| self.seniority.contains(&(*r, p)));
-        self.seniority.iter().all(goes_on)
+        let juniors: Vec<BTreeSet<Role>> = (0..ROLES).map(|r| self.juniors(r).collect()).collect();
+        self.seniority.iter().all(|(r, q)| juniors[*q as usize].is_subset(&juniors[*r as usize]))
     }
 
     /// No role is its own direct junior.
     fn own_links_are_absent(&self) -> bool {
         let others = between_others(&self.direct);
-        turn!("wrong-own-link-sound", self.direct == others, self.direct.is_superset(&others))
+        turn!(own_link_sound, self.direct == others, self.direct.is_superset(&others))
     }
 
     /// Seniority is the closure of the direct juniors; the wrong turns let it be more, or less.
     fn is_closed(&self) -> bool {
         let (rows, closure) = (&self.seniority, closure(&self.direct));
-        let fits = turn!("wrong-rows-short-of-closure", *rows == closure, rows.is_subset(&closure));
-        turn!("wrong-rows-beyond-closure", fits, fits || rows.is_superset(&closure))
+        let fits = turn!(rows_short_of_closure, *rows == closure, rows.is_subset(&closure));
+        turn!(rows_beyond_closure, fits, fits || rows.is_superset(&closure))
     }
 
     fn grants_are_permissions(&self) -> bool {
@@ -172,9 +158,9 @@ impl State {
 
     /// Every static set holds of each user's authorised roles, and every dynamic one of each session's active roles.
     pub fn is_separated(&self) -> bool {
-        let users = turn!("wrong-last-user-left-out", 0..USERS, 0..USERS - 1);
-        let authorised = |u| turn!("wrong-static-by-assigned", self.authorised(u), self.assigned_to(u));
-        let active = |s| turn!("wrong-dynamic-with-juniors", self.active_in(s), self.covered_in(s));
+        let users = turn!(last_user_left_out, 0..USERS, 0..USERS - 1);
+        let authorised = |u| turn!(static_by_assigned, self.authorised(u), self.assigned_to(u));
+        let active = |s| turn!(dynamic_with_juniors, self.active_in(s), self.with_juniors(seconds(&self.active, s)));
         let among_users = |set: &Separation| users.clone().all(|u| set.holds(&authorised(u)));
         let among_sessions = |set: &Separation| (0..SESSIONS).all(|s| set.holds(&active(s)));
         self.static_sets.values().all(among_users) && self.dynamic_sets.values().all(among_sessions)
@@ -184,20 +170,17 @@ impl State {
     pub fn is_like(&self, other: &State) -> bool {
         self.openings == other.openings
             && (0..SESSIONS).all(|s| self.effective(s) == other.effective(s))
-            && self.counted_users().all(|u| self.counted_roles(u) == other.counted_roles(u))
-            && turn!("wrong-likeness-by-owner", true, self.users == other.users)
+            && (0..USERS).all(|u| self.is_like_for(u, other))
+            && turn!(likeness_by_owner, true, self.users == other.users)
     }
 
-    /// The users of whom likeness asks: all of them.
-    fn counted_users(&self) -> impl Iterator<Item = User> + '_ {
-        let users = turn!("wrong-likeness-last-user", 0..USERS, 0..USERS - 1);
-        let users = turn!("wrong-likeness-of-sessions", users, users.filter(|u| self.users.values().any(|v| v == u)));
-        turn!("wrong-likeness-without-users", users, users.take(0))
-    }
-
-    /// What likeness asks of a user: the authorised roles.
-    fn counted_roles(&self, u: User) -> BTreeSet<Role> {
-        turn!("wrong-likeness-by-assigned", self.authorised(u), seconds(&self.assigned, u).collect())
+    /// The user has the same authorised roles in both states; wrong turns do not ask this of every user.
+    fn is_like_for(&self, u: User, other: &State) -> bool {
+        let roles = |state: &State| turn!(likeness_by_assigned, state.authorised(u), state.assigned_to(u));
+        let is_asked = turn!(likeness_last_user, true, u < USERS - 1);
+        let is_asked = turn!(likeness_of_sessions, is_asked, self.users.values().any(|user| *user == u));
+        let is_asked = turn!(likeness_without_users, is_asked, false);
+        !is_asked || roles(self) == roles(other)
     }
 }
 

@@ -3,7 +3,7 @@
 use crate::separation::Separation;
 use crate::state::{Mode, Session, State, MODES, OBJECTS, ROLES, SESSIONS, SETS, USERS};
 use crate::turns::turn;
-use std::collections::BTreeMap;
+use std::collections::{BTreeMap, BTreeSet};
 
 const PERMITTED: u64 = ROLES;
 const ASSIGNED: u64 = PERMITTED + MODES;
@@ -59,19 +59,36 @@ pub fn add(words: &mut [u64], at: u64, member: u64) {
 }
 
 fn read(words: &[u64]) -> State {
-    let sets = |first: u64, end: u64| read_sets(&words[first as usize..end as usize]);
-    let (static_sets, dynamic_sets) = (sets(STATIC, DYNAMIC), sets(DYNAMIC, DIRECT));
-    let mut state = State { static_sets, dynamic_sets, ..State::default() };
-    for (at, word) in (0..).zip(words) {
-        match at {
-            OWNER..ACTIVE if *word > 0 => {
-                state.users.insert(at - OWNER, word - 1);
-            }
-            OWNER..ACTIVE | STATIC..DIRECT => {}
-            _ => members(*word).into_iter().for_each(|member| put(&mut state, at, member)),
-        }
+    let section = |first: u64, end: u64| &words[first as usize..end as usize];
+    let users = (0..).zip(section(OWNER, ACTIVE)).filter(|(_, word)| **word > 0);
+    State {
+        seniority: relation(section(0, PERMITTED)),
+        permissions: relation(section(PERMITTED, ASSIGNED)),
+        assigned: relation(section(ASSIGNED, GRANTED)),
+        granted: with_places(relation(section(GRANTED, OWNER)), |at| (at / OBJECTS, at % OBJECTS)),
+        users: users.map(|(s, word)| (s, word - 1)).collect(),
+        active: relation(section(ACTIVE, HOLDS)),
+        openings: with_places(relation(section(HOLDS, STATIC)), |at| (at / MODES, at % MODES)),
+        static_sets: read_sets(section(STATIC, DYNAMIC)),
+        dynamic_sets: read_sets(section(DYNAMIC, DIRECT)),
+        direct: relation(section(DIRECT, MASKS)),
+        masks: with_places(relation(section(MASKS, WORDS as u64)), mask_of),
     }
-    state
+}
+
+/// The pairs of a place in the list and a member of the word there.
+pub fn relation(words: &[u64]) -> BTreeSet<(u64, u64)> {
+    let row = |(at, word): (u64, &u64)| members(*word).into_iter().map(move |member| (at, member));
+    (0..).zip(words).flat_map(row).collect()
+}
+
+/// The relation with the two numbers that a place stands for.
+fn with_places(pairs: BTreeSet<(u64, u64)>, of: fn(u64) -> (u64, u64)) -> BTreeSet<(u64, u64, u64)> {
+    let triple = |(at, member)| {
+        let (first, second) = of(at);
+        (first, second, member)
+    };
+    pairs.into_iter().map(triple).collect()
 }
 
 /// The sets of 16 pairs of mask and bound, without the empty pairs.
@@ -80,31 +97,14 @@ fn read_sets(words: &[u64]) -> BTreeMap<u64, Separation> {
     (0..).zip(sets).filter(|(_, set)| !set.is_empty()).collect()
 }
 
-/// Adds to the state what one bit of the table says.
-fn put(state: &mut State, at: u64, member: u64) {
-    match at {
-        0..PERMITTED => state.seniority.insert((at, member)),
-        PERMITTED..ASSIGNED => state.permissions.insert((at - PERMITTED, member)),
-        ASSIGNED..GRANTED => state.assigned.insert((at - ASSIGNED, member)),
-        GRANTED..OWNER => state.granted.insert(((at - GRANTED) / OBJECTS, (at - GRANTED) % OBJECTS, member)),
-        ACTIVE..HOLDS => state.active.insert((at - ACTIVE, member)),
-        HOLDS..STATIC => state.openings.insert(((at - HOLDS) / MODES, (at - HOLDS) % MODES, member)),
-        DIRECT..MASKS => state.direct.insert((at - DIRECT, member)),
-        _ => {
-            let (s, x) = mask_of(at - MASKS);
-            state.masks.insert((s, x, member))
-        }
-    };
-}
-
 /// The session and the mode of a mask: the eight of a session together, the sessions in order.
 fn mask_of(place: u64) -> (Session, Mode) {
-    turn!("wrong-masks-by-mode", (place / MODES, place % MODES), (place % SESSIONS, place / SESSIONS))
+    turn!(masks_by_mode, (place / MODES, place % MODES), (place % SESSIONS, place / SESSIONS))
 }
 
 /// The place of a session's mask of a mode.
 fn place_of(s: Session, x: Mode) -> u64 {
-    turn!("wrong-masks-by-mode", MODES * s + x, SESSIONS * x + s)
+    turn!(masks_by_mode, MODES * s + x, SESSIONS * x + s)
 }
 
 /// Writes the words that say what the state does.
