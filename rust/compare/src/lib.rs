@@ -25,8 +25,10 @@ pub use random::Random;
 pub use reached::{every_call, every_transcript, Reached};
 pub use reference::WORDS;
 pub use run::{check, compare, watch, Reply, Run, LENT};
+pub use shrink::shrink;
+pub use text::members;
 pub use transcripts::{check_transcript, difference, random_transcript, readers, Reader};
 pub use words::Layer;
 
 #[cfg(test)]
-const _: () = assert!(!reference::WRONG, "tests are built without a wrong turn");
+const _: () = assert!(!reference::WRONG, "tests are built without wrong turns");

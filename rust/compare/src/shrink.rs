@@ -48,13 +48,3 @@ fn zeroed(step: &Step, place: usize) -> Option<Step> {
     }
     Some(copy)
 }
-
-#[cfg(test)]
-mod tests {
-    #[test]
-    fn keeps_what_fails() {
-        let items: Vec<u32> = (0..100).collect();
-        let fails = |part: &[u32]| part.contains(&17) && part.contains(&61);
-        assert_eq!(super::shrink(&items, fails), [17, 61]);
-    }
-}

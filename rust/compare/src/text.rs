@@ -12,7 +12,7 @@ pub fn members(word: u64) -> impl Iterator<Item = u64> {
 }
 
 /// The lines of a set-up that a transcript can say, without their `run`.
-pub fn setup_lines(step: &Step) -> Option<Vec<String>> {
+fn setup_lines(step: &Step) -> Option<Vec<String>> {
     match step {
         Step::RoleSetup { juniors, permissions } if (juniors.len(), permissions.len()) == (64, 8) => {
             let rows = |word: &'static str, list: &[u64]| -> Vec<String> {
@@ -168,20 +168,4 @@ fn read_step(mode: Option<Layer>, word: &str, numbers: &[u64]) -> Option<Step> {
         ("!restore", []) => Step::Restore,
         _ => return None,
     })
-}
-
-#[cfg(test)]
-mod tests {
-    use crate::{damaged, requests, set_ups, Case, Layer, Random};
-
-    #[test]
-    fn a_printed_case_reads_the_same() {
-        let mut random = Random::new(5);
-        for _ in 0..50 {
-            let lists = [Layer::Roles, Layer::Labels].map(|layer| requests(&mut random, layer));
-            for case in lists.into_iter().chain([damaged(&mut random), set_ups(&mut random)]) {
-                assert_eq!(case.to_string().parse::<Case>(), Ok(case));
-            }
-        }
-    }
 }

@@ -74,8 +74,9 @@ impl Reader {
 /// # Errors
 /// The first line that differs, and a shorter transcript of which one still does.
 pub fn check_transcript(input: &[u8], readers: &[Reader], reached: &mut Reached) -> Result<(), String> {
-    count(input, reached);
-    if difference(input, readers).is_none() {
+    let expected = reference::transcript::transcript(input);
+    count(input, &expected, reached);
+    if difference_from(&expected, input, readers).is_none() {
         return Ok(());
     }
     let lines: Vec<&[u8]> = input.split_inclusive(|byte| *byte == b'\n').collect();
@@ -86,7 +87,11 @@ pub fn check_transcript(input: &[u8], readers: &[Reader], reached: &mut Reached)
 
 /// The first line in which a reader differs from the second implementation.
 pub fn difference(input: &[u8], readers: &[Reader]) -> Option<String> {
-    let expected = reference::transcript::transcript(input);
+    difference_from(&reference::transcript::transcript(input), input, readers)
+}
+
+/// The first line in which a reader's output differs from what is expected.
+fn difference_from(expected: &str, input: &[u8], readers: &[Reader]) -> Option<String> {
     readers.iter().find_map(|reader| match reader.output(input) {
         Ok(output) if output == expected.as_bytes() => None,
         Ok(output) => {
@@ -100,8 +105,7 @@ pub fn difference(input: &[u8], readers: &[Reader]) -> Option<String> {
 }
 
 /// Counts the answer of each line that is ended by a newline, under the mode that was chosen before it.
-fn count(input: &[u8], reached: &mut Reached) {
-    let output = reference::transcript::transcript(input);
+fn count(input: &[u8], output: &str, reached: &mut Reached) {
     let mut mode = None;
     for (line, result) in input.split_inclusive(|byte| *byte == b'\n').zip(output.lines().skip(1)) {
         let numbers: Vec<u64> = result.split('\t').filter_map(|number| number.parse().ok()).collect();
@@ -115,7 +119,7 @@ fn count(input: &[u8], reached: &mut Reached) {
 
 /// A random transcript: a set-up and requests, with faulty and misplaced lines among them.
 pub fn random_transcript(random: &mut Random) -> Vec<u8> {
-    let layer = random.one(&[Layer::Roles, Layer::Labels]);
+    let layer = random.one(&Layer::ALL);
     let times = if random.chance(3) { 60 } else { 1 };
     let mut lines = transcript_lines(random, layer, times);
     if random.chance(10) {

@@ -1,12 +1,10 @@
 //! The calls of every guard, held to the second implementation on random cases.
 
+use crate::common::{every_kind, Counts};
 use compare::{
     check, damage_everywhere, damaged, every_call, likeness, links, requests, set_ups, watch, Case, Guard, Layer,
     Random, Reached, Step, GUARDS, REFERENCE, WORDS,
 };
-use std::collections::BTreeMap;
-
-const _: () = assert!(!reference::WRONG, "tests are built without a wrong turn");
 
 /// Compares each case, and fails with the first that tells two guards apart.
 fn compare_all(cases: impl Iterator<Item = Case>) -> Reached {
@@ -58,13 +56,13 @@ fn kind_of_start(table: &[u64], session: u64, roles: u64, answer: u64) -> &'stat
 }
 
 /// Counts what the role starts of a case came to, and the openings of sessions whose roles all came from their start.
-fn count_starts(case: &Case, counts: &mut BTreeMap<&'static str, u64>) {
+fn count_starts(case: &Case, counts: &mut Counts) {
     let mut chosen = [false; 32];
     watch(case, |before, step, answer, after| match step {
         Step::Role([3, session, _, roles]) => {
-            *counts.entry(kind_of_start(before, *session, *roles, answer)).or_default() += 1;
+            counts.add(kind_of_start(before, *session, *roles, answer));
             if *roles == u64::MAX {
-                *counts.entry("all 64 roles").or_default() += 1;
+                counts.add("all 64 roles");
             }
             if answer == 1 {
                 chosen[*session as usize] = *roles != 0;
@@ -72,7 +70,7 @@ fn count_starts(case: &Case, counts: &mut BTreeMap<&'static str, u64>) {
         }
         Step::Role([5, session, ..]) if answer == 1 => chosen[*session as usize] = false,
         Step::Role([1, session, ..]) if answer == 1 && chosen[*session as usize] && before != after => {
-            *counts.entry("opened after a start with roles").or_default() += 1;
+            counts.add("opened after a start with roles");
         }
         _ => {}
     });
@@ -81,13 +79,8 @@ fn count_starts(case: &Case, counts: &mut BTreeMap<&'static str, u64>) {
 /// The random cases reach every kind of role start, each often.
 #[test]
 fn every_kind_of_start() {
-    let mut random = Random::new(1);
-    let mut counts = BTreeMap::new();
-    for _ in 0..400 {
-        count_starts(&requests(&mut random, Layer::Roles), &mut counts);
-    }
-    println!("{counts:?}");
-    assert!(counts.len() == 7 && counts.values().all(|count| *count >= 50), "{counts:?}");
+    let cases = |random: &mut Random| vec![requests(random, Layer::Roles)];
+    every_kind([7, 50], 1, 400, cases, count_starts);
 }
 
 /// Every word of a table of a layer damaged: refusals 13 and 14 are reached.

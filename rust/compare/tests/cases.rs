@@ -2,13 +2,9 @@
 //! (`crates/cases`), whose expected output is the list of answers here too, the points of bench case J, starts with roles, and
 //! separation sets.
 
-mod common;
-
-use common::{after, ask, case, expect, play};
+use crate::common::{after, ask, case, close, expect, play};
 use compare::{compare, guards, Case, Guard, Reached, Run, Step, GUARDS, LENT};
 use reference::{Label, WORDS};
-
-const _: () = assert!(!reference::WRONG, "tests are built without a wrong turn");
 
 /// What the program `cases` writes: a row's number, its answer and what it spent.
 const EXPECTED: &str = include_str!("../../../crates/cases/stdout");
@@ -505,16 +501,12 @@ fn sets_on_label_tables() {
     for guard in guards() {
         for (code, set) in [(11, 0), (11, 15), (12, 0), (12, 15)] {
             let mut run = after(guard, "lattice; clear 5 17; run; start 2 5 17");
-            let close = |run: &mut Run, answers: [u64; 2]| {
-                let reply = run.step(guard, &Step::Label([2, 2, 0, 0])).map(|reply| reply.answers);
-                assert_eq!(reply, Some(answers.to_vec()), "code {code}, set {set}, {}", guard.name);
-            };
             // every user has all writing roles, and no session has two of them; nobody reads both 17 and 18
             replace(&mut run, guard, [code, set, 3 << 32, 2], u64::from(code == 12));
             replace(&mut run, guard, [code, set, 3 << 17, 2], 1);
-            close(&mut run, [14, 0]);
+            close(&mut run, guard, [14, 0]);
             replace(&mut run, guard, [code, set, 0, 0], 1);
-            close(&mut run, [1, 1]);
+            close(&mut run, guard, [1, 1]);
         }
     }
 }

@@ -4,8 +4,6 @@
 use compare::{guards, REFERENCE};
 use std::collections::BTreeMap;
 
-const _: () = assert!(!reference::WRONG, "tests are built without a wrong turn");
-
 const EQUAL: u64 = 0;
 const ABOVE: u64 = 1;
 const BELOW: u64 = 2;

@@ -1,13 +1,8 @@
 //! Likeness on every guard: tables that differ in one thing that counts, at its first and its last place, and tables that differ
 //! in what does not count; the refusals in their order; alike tables in use; and what random pairs of tables come to.
 
-mod common;
-
-use common::{after, ask, expect, MASKS};
-use compare::{guards, likeness, requests, Case, Guard, Layer, Random, Run, Step, PLAIN, WORDS};
-use std::collections::BTreeMap;
-
-const _: () = assert!(!reference::WRONG, "tests are built without a wrong turn");
+use crate::common::{after, ask, every_kind, expect, Counts, MASKS};
+use compare::{guards, likeness, members, requests, Case, Guard, Layer, Random, Run, Step, PLAIN, WORDS};
 
 /// Role 5 above 3, 3 above 1; (0, 9) is a permission.
 const ABOVE: &str = "roles; above 5 3; above 3 1; permit 0 9; run";
@@ -264,7 +259,7 @@ fn activations_of_alike_tables() {
 
 /// The authorised roles of the 64 users of a sound table.
 fn roles_of(table: &[u64]) -> Vec<u64> {
-    let juniors = |set: u64| (0..64).filter(|role| set >> role & 1 == 1).fold(0, |all, role| all | table[role]);
+    let juniors = |set: u64| members(set).fold(0, |all, role| all | table[role as usize]);
     table[72..136].iter().map(|assigned| juniors(*assigned)).collect()
 }
 
@@ -299,7 +294,7 @@ fn kinds_of_pair(one: &[u64], other: &[u64]) -> Vec<String> {
 }
 
 /// Counts what the pairs of a case that are sound come to, and holds the answer to it.
-fn count_pairs(case: &Case, counts: &mut BTreeMap<String, u64>) {
+fn count_pairs(case: &Case, counts: &mut Counts) {
     let mut run = Run::default();
     let mut kept = run.table.clone();
     for step in &case.0 {
@@ -309,7 +304,7 @@ fn count_pairs(case: &Case, counts: &mut BTreeMap<String, u64>) {
             Step::Alike if answer < 2 => {
                 let kinds = kinds_of_pair(&kept, &run.table);
                 assert!(kinds.iter().all(|kind| kind.starts_with(&answer.to_string())), "{kinds:?}, {answer}");
-                kinds.into_iter().for_each(|kind| *counts.entry(kind).or_default() += 1);
+                kinds.into_iter().for_each(|kind| counts.add(kind));
             }
             _ => {}
         }
@@ -319,11 +314,5 @@ fn count_pairs(case: &Case, counts: &mut BTreeMap<String, u64>) {
 /// The random pairs differ in each thing that counts alone, and in each that does not, all of them often.
 #[test]
 fn every_kind_of_pair() {
-    let mut random = Random::new(17);
-    let mut counts = BTreeMap::new();
-    for _ in 0..1200 {
-        count_pairs(&likeness(&mut random), &mut counts);
-    }
-    println!("{counts:?}");
-    assert!(counts.len() == 13 && counts.values().all(|count| *count >= 20), "{counts:?}");
+    every_kind([13, 20], 17, 1200, |random| vec![likeness(random)], count_pairs);
 }

@@ -1,18 +1,8 @@
 //! The masks of effective permissions that the table keeps: requests that change them and masks that are not true on every
 //! guard, tables from before there were masks, and what the random cases make of masks: everything that they can, each often.
 
-mod common;
-
-use common::{after, ask, expect, masks_of, MASKS};
-use compare::{
-    damaged, guards, links, requests, watch, Case, Guard, Layer, Random, Run, Step, GUARDS, LENT, PLAIN, WORDS,
-};
-use std::collections::BTreeMap;
-
-const _: () = assert!(!reference::WRONG, "tests are built without a wrong turn");
-
-/// Words, each at its place.
-type Words = &'static [(usize, u64)];
+use crate::common::{after, ask, ask_all, every_kind, expect, is_sound, judge, masks_of, Counts, Words, MASKS};
+use compare::{damaged, guards, links, requests, watch, Case, Guard, Layer, Random, Run, Step, GUARDS, LENT, WORDS};
 
 /// Role 5 above 3, 3 above 1; role 1 is granted (0, 9), and user 2 is assigned 5. Word 1096 is the first mask of session 0,
 /// word 1104 of session 1, and word 1120 of session 3.
@@ -44,12 +34,7 @@ fn words_of_masks() {
         ([2, 3, 9, 0], 1, &[(736, 0)]), // closed, and still effective
         ([14, 7, 3, 0], 1, &[(1039, 0), (7, 128), (1120, 0)]),
     ];
-    for guard in guards() {
-        let mut run = after(guard, ABOVE);
-        for (asked, answer, writes) in requests {
-            ask(&mut run, guard, asked, answer, writes);
-        }
-    }
+    ask_all(ABOVE, &requests);
 }
 
 /// Every one of the 32 sessions, of the 8 modes and of the 64 objects has its bit, in place 1096 + 8 * session + mode.
@@ -126,36 +111,6 @@ fn masks_of_label_tables() {
     }
 }
 
-/// Every call that tests the table, with its answers (and spent) where the table is sound.
-fn calls(label_answers: [u64; 2]) -> [(Step, Vec<u64>); 10] {
-    [
-        (Step::Role([0, 0, 0, 0]), vec![15]),
-        (Step::Role([1, 32, 0, 0]), vec![16]),
-        (Step::Role([2, 5, 0, 0]), vec![1]),
-        (Step::Role([4, 5, 0, 0]), vec![0]),
-        (Step::Role([14, 4, 4, 0]), vec![0]),
-        (Step::Label([2, 5, 0, 0]), label_answers.to_vec()),
-        (Step::Alike, vec![1, 1]),
-        (Step::Permissions(0), vec![1]),
-        (Step::Permissions(5), vec![1]),
-        (Step::Authorised(0), vec![1]),
-    ]
-}
-
-/// Holds every call to refusal 13, which leaves all words, or where the table is sound to other answers.
-fn judge(run: &mut Run, guard: &Guard, label_answers: [u64; 2], is_sound: bool) {
-    run.step(guard, &Step::Keep);
-    let before = run.table.clone();
-    for (step, if_sound) in calls(label_answers) {
-        let reply = run.step(guard, &step).expect("a guard takes part");
-        let refused = if matches!(step, Step::Alike) { vec![13, 13] } else { vec![13, 0] };
-        let expected = if is_sound { &if_sound[..] } else { &refused[..if_sound.len()] };
-        assert_eq!(reply.answers, expected, "{step:?} by the {}", guard.name);
-        assert!(is_sound || reply.words.iter().all(|word| *word == LENT), "{step:?} by the {} writes", guard.name);
-        assert!(run.table == before, "{step:?} by the {} changes the table", guard.name);
-    }
-}
-
 /// A bit too few and a bit too many, in the first mask and in the last, of a session in use and of an idle one, and of one
 /// that has a user and no roles; a bit in the mask of another mode; and the masks of another session.
 #[test]
@@ -200,7 +155,7 @@ fn masks_that_are_not_true() {
 fn tables_of_1096_words() {
     let mut random = Random::new(12);
     for guard in guards() {
-        for layer in [Layer::Roles, Layer::Labels] {
+        for layer in Layer::ALL {
             let mut run = Run::default();
             for step in &requests(&mut random, layer).0 {
                 run.step(guard, step);
@@ -251,6 +206,7 @@ fn check_readings(table: &[u64], guard: &Guard) {
 #[cfg(feature = "proved")]
 #[test]
 fn sessions_of_the_crate() {
+    use compare::PLAIN;
     use sheetguard::{sessions, Refusal, Session};
 
     let mut random = Random::new(15);
@@ -304,11 +260,6 @@ fn kind_of_change(step: &Step, sessions: usize) -> Option<&'static str> {
     })
 }
 
-/// Whether a table is sound, by a request that is refused straight after the test.
-fn is_sound(table: &[u64]) -> bool {
-    (PLAIN.role_request)(&mut table.to_vec(), 0, 0, 0, 0) == 15
-}
-
 /// The call that meets masks that are not true in a table that is sound but for them, and in which way they are not.
 fn kind_of_fault(table: &[u64], step: &Step) -> Option<[&'static str; 2]> {
     let anew = masks_of(table);
@@ -333,29 +284,20 @@ fn kind_of_fault(table: &[u64], step: &Step) -> Option<[&'static str; 2]> {
 }
 
 /// Counts what the calls of a case do to the masks, and the faults of masks that they meet.
-fn count(case: &Case, counts: &mut BTreeMap<&'static str, u64>) {
+fn count(case: &Case, counts: &mut Counts) {
     watch(case, |before, step, answer, after| match answer {
         1 if before != after && before.len() == WORDS => {
-            let kind = kind_of_change(step, changed(before, after));
-            kind.into_iter().for_each(|kind| *counts.entry(kind).or_default() += 1);
+            kind_of_change(step, changed(before, after)).into_iter().for_each(|kind| counts.add(kind));
         }
         13 if before.len() == WORDS => {
-            let kinds = kind_of_fault(before, step);
-            kinds.into_iter().flatten().for_each(|kind| *counts.entry(kind).or_default() += 1);
+            kind_of_fault(before, step).into_iter().flatten().for_each(|kind| counts.add(kind));
         }
         _ => {}
     });
 }
 
 #[test]
-fn every_kind() {
-    let mut random = Random::new(14);
-    let mut counts = BTreeMap::new();
-    for _ in 0..500 {
-        count(&requests(&mut random, Layer::Roles), &mut counts);
-        count(&links(&mut random), &mut counts);
-        count(&damaged(&mut random), &mut counts);
-    }
-    println!("{counts:?}");
-    assert!(counts.len() == 27 && counts.values().all(|count| *count >= 20), "{counts:?}");
+fn every_kind_of_change_and_fault() {
+    let cases = |random: &mut Random| vec![requests(random, Layer::Roles), links(random), damaged(random)];
+    every_kind([27, 20], 14, 500, cases, count);
 }

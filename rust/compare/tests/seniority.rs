@@ -1,19 +1,11 @@
 //! Changes of seniority: links and damaged links on every guard, and what links come to in the random cases: everything that
 //! they can, each often.
 
-mod common;
-
-use common::{after, ask, expect, MASKS};
-use compare::{damaged, guards, links, watch, Case, Guard, Random, Run, Step, PLAIN, WORDS};
-use std::collections::BTreeMap;
-
-const _: () = assert!(!reference::WRONG, "tests are built without a wrong turn");
+use crate::common::{after, ask, ask_all, close, every_kind, expect, judge, Counts, Words, MASKS};
+use compare::{damaged, guards, links, watch, Case, Guard, Run, Step, PLAIN, WORDS};
 
 /// Where the direct juniors begin.
 const DIRECT: usize = 1032;
-
-/// Words, each at its place.
-type Words = &'static [(usize, u64)];
 
 /// Role 5 above 3, 3 above 1: words 5, 3 and 1 are 42, 10 and 2, words 1037 and 1035 are 8 and 2.
 const ABOVE: &str = "roles; above 5 3; above 3 1; run";
@@ -41,12 +33,7 @@ fn words_of_links() {
         ([14, 5, 3, 0], 1, &[(1037, 2)]), // by 1 now
         ([14, 5, 1, 0], 1, &[(1037, 0), (5, 32), (7, 128 | 32)]),
     ];
-    for guard in guards() {
-        let mut run = after(guard, ABOVE);
-        for (asked, answer, writes) in requests {
-            ask(&mut run, guard, asked, answer, writes);
-        }
-    }
+    ask_all(ABOVE, &requests);
 }
 
 /// A static set looks at every user, with a session or without, by whatever role they have the senior; a dynamic set at the
@@ -123,18 +110,6 @@ fn a_chain_cut() {
     }
 }
 
-/// Holds every call to refusal 13, which leaves all words, or where the table is sound to other answers.
-fn judge(run: &mut Run, guard: &Guard, is_sound: bool) {
-    let answer = |answer| if is_sound { answer } else { 13 };
-    let asked = [([0; 4], 15), ([13, 64, 0, 0], 16), ([14, 4, 4, 0], 0), ([13, 4, 4, 0], 0), ([2, 0, 0, 0], 1)];
-    asked.into_iter().for_each(|(asked, if_sound)| ask(run, guard, asked, answer(if_sound), &[]));
-    run.step(guard, &Step::Keep);
-    for step in [Step::Alike, Step::Permissions(0), Step::Authorised(0)] {
-        let reply = run.step(guard, &step).map(|reply| reply.answers[0]);
-        assert_eq!(reply, Some(answer(1)), "{step:?} by the {}", guard.name);
-    }
-}
-
 /// A table after lines, with words put into it.
 fn damaged_by(guard: &Guard, text: &str, words: Words) -> Run {
     let mut run = after(guard, text);
@@ -167,16 +142,10 @@ fn damaged_links() {
     ];
     let fitting: [Words; 4] = [&[(1037, 10)], &[(1039, 2), (7, 130)], &[(1037, 0), (5, 32)], &[(1037, 2), (5, 34)]];
     for guard in guards() {
-        damages.iter().for_each(|words| judge(&mut damaged_by(guard, ABOVE, words), guard, false));
-        circles.iter().for_each(|words| judge(&mut damaged_by(guard, "roles; run", words), guard, false));
-        fitting.iter().for_each(|words| judge(&mut damaged_by(guard, ABOVE, words), guard, true));
+        damages.iter().for_each(|words| judge(&mut damaged_by(guard, ABOVE, words), guard, [14, 0], false));
+        circles.iter().for_each(|words| judge(&mut damaged_by(guard, "roles; run", words), guard, [14, 0], false));
+        fitting.iter().for_each(|words| judge(&mut damaged_by(guard, ABOVE, words), guard, [14, 0], true));
     }
-}
-
-/// Holds a label request to its answer and spent.
-fn close(run: &mut Run, guard: &Guard, answers: [u64; 2]) {
-    let reply = run.step(guard, &Step::Label([2, 2, 0, 0])).map(|reply| reply.answers);
-    assert_eq!(reply, Some(answers.to_vec()), "{}", guard.name);
 }
 
 /// A label image lists every junior but the role itself as direct, and is none with other links, though the juniors are the
@@ -281,7 +250,7 @@ fn kind_of_fault(table: &[u64], step: &Step, answer: u64) -> Option<&'static str
 }
 
 /// Counts what the links of a case came to, and the faults of links.
-fn count(case: &Case, counts: &mut BTreeMap<&'static str, u64>) {
+fn count(case: &Case, counts: &mut Counts) {
     watch(case, |before, step, answer, after| {
         let kind = match step {
             Step::Role(asked @ [13, ..]) if answer < 2 => Some(kind_of_link(before, *asked, answer, after)),
@@ -289,18 +258,11 @@ fn count(case: &Case, counts: &mut BTreeMap<&'static str, u64>) {
             _ if answer == 13 || answer == 14 => kind_of_fault(before, step, answer),
             _ => None,
         };
-        kind.into_iter().for_each(|kind| *counts.entry(kind).or_default() += 1);
+        kind.into_iter().for_each(|kind| counts.add(kind));
     });
 }
 
 #[test]
-fn every_kind() {
-    let mut random = Random::new(10);
-    let mut counts = BTreeMap::new();
-    for _ in 0..500 {
-        count(&links(&mut random), &mut counts);
-        count(&damaged(&mut random), &mut counts);
-    }
-    println!("{counts:?}");
-    assert!(counts.len() == 18 && counts.values().all(|count| *count >= 20), "{counts:?}");
+fn every_kind_of_link_and_fault() {
+    every_kind([18, 20], 10, 500, |random| vec![links(random), damaged(random)], count);
 }

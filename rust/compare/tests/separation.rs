@@ -1,9 +1,7 @@
 //! What separation sets do to the requests of the random cases: everything that they can, each often.
 
+use crate::common::{every_kind, is_sound, Counts};
 use compare::{damaged, requests, watch, Case, Layer, Random, Run, Step, PLAIN, WORDS};
-use std::collections::BTreeMap;
-
-const _: () = assert!(!reference::WRONG, "tests are built without a wrong turn");
 
 /// Where the pairs of mask and bound begin, those of the dynamic sets, and what is behind them.
 const STATIC: usize = 968;
@@ -50,13 +48,8 @@ fn fault(table: &[u64]) -> &'static str {
     }
 }
 
-/// Whether a table is sound, by a request that is refused straight after the test.
-fn is_sound(table: &[u64]) -> bool {
-    (PLAIN.role_request)(&mut table.to_vec(), 0, 0, 0, 0) == 15
-}
-
 /// Counts what the sets did to the requests of a case, but for those that replace a set.
-fn count(case: &Case, counts: &mut BTreeMap<&'static str, u64>) {
+fn count(case: &Case, counts: &mut Counts) {
     watch(case, |before, step, answer, _| {
         let counted = match step {
             Step::Role([code, ..]) => ![11, 12].contains(code),
@@ -64,19 +57,13 @@ fn count(case: &Case, counts: &mut BTreeMap<&'static str, u64>) {
             _ => false,
         };
         if counted && before.len() == WORDS && without_sets(before, step) != Some(answer) {
-            *counts.entry(kind(before, step, answer)).or_default() += 1;
+            counts.add(kind(before, step, answer));
         }
     });
 }
 
 #[test]
-fn every_kind() {
-    let mut random = Random::new(9);
-    let mut counts = BTreeMap::new();
-    for _ in 0..500 {
-        count(&requests(&mut random, Layer::Roles), &mut counts);
-        count(&damaged(&mut random), &mut counts);
-    }
-    println!("{counts:?}");
-    assert!(counts.len() == 9 && counts.values().all(|count| *count >= 20), "{counts:?}");
+fn every_effect_of_a_set() {
+    let cases = |random: &mut Random| vec![requests(random, Layer::Roles), damaged(random)];
+    every_kind([9, 20], 9, 500, cases, count);
 }

@@ -4,8 +4,6 @@ use compare::{check_transcript, every_transcript, random_transcript, readers, La
 use reference::transcript::transcript;
 use std::collections::BTreeSet;
 
-const _: () = assert!(!reference::WRONG, "tests are built without a wrong turn");
-
 #[test]
 fn every_line_and_every_answer() {
     let (mut random, mut reached, readers) = (Random::new(8), Reached::default(), readers());
