@@ -94,6 +94,42 @@ fn likeness(name: &'static str, table: Vec<u64>) -> Call {
     answered(name, &table, Box::new(move |guard, table| (guard.alike)(table, &copy)), 1)
 }
 
+/// The role requests of every day, on the plant's table.
+fn everyday_roles() -> Vec<Call> {
+    // session 16 is idle; user 1 has role 1, above the others
+    let start = role_ask([3, 16, 1, 1 << 1 | 1 << 3 | 1 << 7 | 1 << 15]);
+    vec![
+        role("role open, yes", 1, 1),
+        role("role open, no", 1, 0),
+        role("role close", 2, 1),
+        answered("role start", &tables::plant(), start, 1),
+        role("role activate", 5, 1),
+        role("role drop", 6, 1),
+        role("role assign", 7, 1),
+    ]
+}
+
+/// A start on the label image: session 16 is idle, and user 0 is cleared to 0.
+fn label_start(level: u64) -> Ask {
+    label_ask([3, 16, 0, level])
+}
+
+/// The label requests of every day that are answered yes, on the label image.
+fn everyday_labels() -> Vec<Call> {
+    let start = answered("label start, yes", &tables::labels(), label_start(0), 101);
+    vec![label("label open", 1, 1, 1), start]
+}
+
+/// The requests of every day, those of a layer behind its soundness test.
+pub fn everyday() -> Vec<Call> {
+    let (roles, labels) = (sound("sound: plant", &tables::plant()), sound(IMAGE, &tables::labels()));
+    let close = label("label close", 2, 1, 1);
+    [vec![roles], everyday_roles(), vec![labels], everyday_labels(), vec![close]].into_iter().flatten().collect()
+}
+
+/// The name of the soundness test of a label image.
+const IMAGE: &str = "sound: label image, 16 sessions";
+
 /// Every row of the table.
 pub fn rows() -> Vec<Call> {
     let permissions: Ask = Box::new(|guard, table| {
@@ -106,28 +142,20 @@ pub fn rows() -> Vec<Call> {
     let label_set_up: Ask = Box::new(move |guard, table| (guard.label_setup)(table, &clearances, &labels));
     let comparison: Ask =
         Box::new(|guard, _| (0..32 * 32).map(|pair| (guard.compare_labels)(pair / 32, pair % 32)).sum());
-    // session 16 is idle on both tables; user 1 of the plant has role 1, above the others; user 0 is cleared to 0
-    let start = role_ask([3, 16, 1, 1 << 1 | 1 << 3 | 1 << 7 | 1 << 15]);
-    let label_start = |level| label_ask([3, 16, 0, level]);
-    vec![
+    let soundness = vec![
         sound("sound: empty table", &tables::empty()),
-        sound("sound: label image, 16 sessions", &tables::labels()),
+        sound(IMAGE, &tables::labels()),
         sound("sound: full role table", &tables::full()),
-        role("role open, yes", 1, 1),
-        role("role open, no", 1, 0),
-        role("role close", 2, 1),
-        answered("role start", &tables::plant(), start, 1),
-        role("role activate", 5, 1),
-        role("role drop", 6, 1),
-        role("role assign", 7, 1),
+    ];
+    let other_roles = vec![
         role("role deassign", 8, 1),
         role("role grant", 9, 1),
         role("role revoke", 10, 1),
         role("role link", 13, 1),
         role("role unlink, yes", 14, 1),
         kept_link(&tables::plant(), "role unlink, no", 14),
-        label("label open", 1, 1, 1),
-        answered("label start, yes", &tables::labels(), label_start(0), 101),
+    ];
+    let others = vec![
         answered("label start, no", &tables::labels(), label_start(1), 1),
         label("label reclear", 5, 1, 2),
         Call::new("effective permissions", &tables::plant(), permissions),
@@ -139,10 +167,9 @@ pub fn rows() -> Vec<Call> {
         likeness("likeness", tables::plant()),
         likeness("likeness: label image, 16 sessions", tables::labels()),
         likeness("likeness: full role table", tables::full()),
-    ]
-    .into_iter()
-    .chain(rows_with_sets())
-    .collect()
+    ];
+    let parts = [soundness, everyday_roles(), other_roles, everyday_labels(), others, rows_with_sets()];
+    parts.into_iter().flatten().collect()
 }
 
 /// The rows on a table with 32 separation sets.

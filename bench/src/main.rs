@@ -1,10 +1,12 @@
-//! The speed of the guards side by side, as a table in Markdown: `bench [ROUNDS]`.
+//! The speed of the guards side by side, as a table in Markdown: `bench [ROUNDS]`. `bench instructions` is for
+//! `bench/instructions`, which has the instructions of calls counted.
 //!
 //! A row is measured on every guard in turn, and this several times over, so that what else the machine does meets all
 //! of them alike; a cell has the minimum and the median. The soundness test is measured through a role request of
 //! code 0, which is refused straight after it.
 
 mod calls;
+mod instructions;
 mod measure;
 mod tables;
 mod transcripts;
@@ -12,10 +14,15 @@ mod transcripts;
 use measure::{Guards, Times};
 
 fn main() -> std::io::Result<()> {
-    let rounds = std::env::args().nth(1).and_then(|text| text.parse().ok()).unwrap_or(45);
+    let word = std::env::args().nth(1).unwrap_or_default();
+    if word == "instructions" {
+        instructions::make_calls();
+        return Ok(());
+    }
+    let rounds = word.parse().unwrap_or(45);
     let guards = Guards::all();
     println!("{rounds} rounds; nanoseconds a call, minimum / median\n");
-    let measured = if guards.has_proved() { "proved" } else { "(b)" };
+    let measured = if guards.proved.is_some() { "proved" } else { "(b)" };
     println!("| row | proved | (b) plain | (a) second | (c) read | proved / (b) | (a) / {measured} |");
     println!("|---|---|---|---|---|---|---|");
     let read = measure::plain_read(rounds);

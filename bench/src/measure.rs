@@ -39,7 +39,7 @@ pub struct Row {
 
 /// The guards that are there.
 pub struct Guards {
-    proved: Option<Guard>,
+    pub proved: Option<Guard>,
 }
 
 impl Guards {
@@ -49,10 +49,6 @@ impl Guards {
         #[cfg(not(feature = "proved"))]
         let proved = None;
         Guards { proved }
-    }
-
-    pub fn has_proved(&self) -> bool {
-        self.proved.is_some()
     }
 
     /// The call on each guard in turn, round by round.

@@ -17,14 +17,16 @@ pub fn report(rounds: usize) -> io::Result<()> {
     let here = std::env::current_exe()?;
     let beside = |name: &str| here.with_file_name(name);
     let guard = std::env::var_os("SHEETGUARD_PROGRAM").map(PathBuf::from);
-    for (mode, layer) in [("roles", Layer::Roles), ("lattice", Layer::Labels)] {
+    for layer in Layer::ALL {
+        let mode = layer.mode();
         let text = worded_requests(&mut Random::new(11), layer, LINES).to_string();
         let lines: Vec<&str> = text.lines().filter(|line| !line.starts_with('!')).take(LINES).collect();
         let (whole, part) = (write(mode, &lines)?, write(&format!("{mode}-part"), &lines[..PART])?);
-        let counts = Command::new("wc");
         let plain = time(rounds, &whole, lines.len(), Command::new(beside("plain")))?;
         let second = time(3, &part, PART, Command::new(beside("reference")))?;
-        let count = time(rounds, &whole, lines.len(), with(counts, "-l"))?;
+        let mut counts = Command::new("wc");
+        counts.arg("-l");
+        let count = time(rounds, &whole, lines.len(), counts)?;
         let own = guard.as_ref().map(|path| time(rounds, &whole, lines.len(), Command::new(path))).transpose()?;
         let memory = guard.as_ref().map(|path| peak_memory(path, &whole)).transpose()?;
         let shown = own.as_ref().map_or("-".to_string(), speed);
@@ -39,11 +41,6 @@ pub fn report(rounds: usize) -> io::Result<()> {
         [whole, part].iter().try_for_each(fs::remove_file)?;
     }
     Ok(())
-}
-
-fn with(mut command: Command, word: &str) -> Command {
-    command.arg(word);
-    command
 }
 
 fn write(name: &str, lines: &[&str]) -> io::Result<PathBuf> {
