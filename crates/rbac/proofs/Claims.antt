@@ -23,9 +23,9 @@ use Rattle.table.specs.Table.{isTable, encode}
 use Rattle.table.proofs.State.{authorised-intro, authorised-elim, effective-intro, effective-elim}
 use Rattle.table.proofs.Seniority.{linked-junior}
 use Rattle.table.proofs.Separation.{fewer-elim, fewer-intro, empty-separated}
-use Rattle.table.proofs.Masks.{mask-has}
+use Rattle.table.proofs.Masks.{mask-has, refreshed-true}
 use Rattle.table.proofs.Claims.{mask-means}
-use Rattle.table.proofs.Sound.{ruled-is, ruled-intro, sound-is, sound-ruled, sound-masks}
+use Rattle.table.proofs.Sound.{ruled-is, ruled-elim, ruled-intro, sound-is, sound-ruled, sound-masks}
 use Rattle.table.proofs.Table.{table-length}
 use Rattle.table.proofs.Agree.{Agree, agree-refl, agree-sym, agree-trans, agree-refreshed, true-refreshed, ruled-agree, upd-other, by-upd, upd-own, grid-same, agree-own-holds, agree-own-active, agree-own-assigned, agree-own-granted, agree-own-set, agree-own-direct}
 use Rattle.table.proofs.Encode.{state-encode, encode-cong, encode-state, write-owner, write-active}
@@ -37,7 +37,7 @@ use Rattle.rbac.specs.Roles.{Request, opens, closes, starts, ends, activ
 use Rattle.rbac.specs.Guard.{roleStep, allowedSound, changedSound}
 use Rattle.rbac.specs.Served.{Ranged}
 use Rattle.rbac.specs.Source.{Sigma, sigma, EP, opened, closed, tauOpen, tauClose, Same}
-use Rattle.rbac.specs.Claims.{Unchanged, after, KeptSound, KeptApart, plainStep, WithoutSets, ServedSame, IsTableOne, OpenIsTableOne, CloseIsTableOne, MasksKept, OpenIsMask, StartMeans, StartWrites, idempotent, AddedAgain}
+use Rattle.rbac.specs.Claims.{Unchanged, after, KeptSound, KeptApart, plainStep, WithoutSets, ServedSame, IsTableOne, OpenIsTableOne, CloseIsTableOne, MasksKept, OpenIsMask, StartMeans, StartWrites, hangs, SoundnessDecides, idempotent, AddedAgain}
 use Rattle.requests.proofs.Outcome.{decide-yes, decide-no}
 use Rattle.rbac.proofs.Codes.{next-code, is-code, is-code-elim, no-pair}
 use Rattle.rbac.proofs.Guarding.{role-step-short, role-step-unsound, role-step-sound}
@@ -220,6 +220,40 @@ module _ (t : List ℕ) (s o x : ℕ) (f : isSound t ≡ true) (hs : s < 32) (ho
   close-passed =
       passed t (ask 2 s o x) f (is-code _ (omega arith) (omega arith))
       (within-intro _ 2 s o x (le-of-suc-le-suc hs) (le-of-suc-le-suc ho) (le-of-suc-le-suc hx)) (no-pair _ (omega arith)) refl
+
+-- where the answer hangs on soundness, the rules of 01 ask for it and for nothing else
+by-soundness : (S : State) (r : Request) → hangs r ≡ true → rolesAllow S r ≡ rolesSound (changed S r)
+unfolding rolesAllow
+by-soundness S (opens s o x) h = clash h refl
+by-soundness S (closes s o x) h = clash h refl
+by-soundness S (starts s u roles) h = clash h refl
+by-soundness S (ends s) h = clash h refl
+by-soundness S (activates s r) h = clash h refl
+by-soundness S (drops s r) h = refl
+by-soundness S (assigns u r) h = clash h refl
+by-soundness S (deassigns u r) h = refl
+by-soundness S (grants r x o) h = clash h refl
+by-soundness S (revokes r x o) h = refl
+by-soundness S (separates n m b) h = refl
+by-soundness S (links r q) h = clash h refl
+by-soundness S (unlinks r q) h = clash h refl
+
+pub soundness-decides : SoundnessDecides
+unfolding allowed changed
+soundness-decides t q f c r b k h =
+    let p = passed t q f c r b k in
+    let T = changed (state t) (decode q) in
+    let same = by-soundness (state t) (decode q) h in (
+      λ e.
+          let y = yes-allowed t q p e in
+          record {
+            is-ruled = ruled-elim T (ruled-is T ∙ and-intro (sym same ∙ and-left _ _ y) (and-right _ _ y));
+            masks-true = refreshed-true (moved (state t) (decode q));
+          },
+      λ m.
+          let s = sym (ruled-is T) ∙ ruled-intro T (m .is-ruled) in
+          allowed-yes t q p (and-intro (same ∙ and-left _ _ s) (and-right _ _ s)),
+    )
 
 -- a yes and a no, here and there
 module _ (t : List ℕ) {o : Outcome (List ℕ)} {τ : Outcome Sigma} where

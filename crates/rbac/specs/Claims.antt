@@ -6,7 +6,7 @@ use Rattle.table.specs.State.{State}
 use Rattle.table.specs.Authority.{senior, permission, idle, Authorised, Effective}
 use Rattle.table.specs.Separation.{mask, bound, setsEmpty, Fewer, Separated}
 use Rattle.table.specs.Masks.{masksTrue}
-use Rattle.table.specs.Sound.{rolesSound}
+use Rattle.table.specs.Sound.{rolesSound, Sound}
 use Rattle.table.specs.Table.{isTable}
 use Rattle.table.specs.Reading.{word, ownerAt, activeAt, state}
 use Rattle.masks.specs.Answers.{sessionRefreshed}
@@ -95,6 +95,30 @@ abbrev pub StartWrites : Type 0
 StartWrites =
     (t : List ℕ) (s u roles : ℕ) → roleStep t (ask 3 s u roles) .answer ≡ 1
     → roleStep t (ask 3 s u roles) .state ≡ sessionRefreshed (set (set t (ownerAt s) (suc u)) (activeAt s) roles) s
+
+-- the answer hangs on the table without the thing, or with the new set, being sound (01, codes 6, 8 and 10; 02, S-4, codes 11 and 12);
+-- for code 14 there is `UnlinkMeans` (Seniority)
+abbrev pub hangs : Request → Bool
+hangs (opens s o x) = false
+hangs (closes s o x) = false
+hangs (starts s u roles) = false
+hangs (ends s) = false
+hangs (activates s r) = false
+hangs (drops s r) = true
+hangs (assigns u r) = false
+hangs (deassigns u r) = true
+hangs (grants r x o) = false
+hangs (revokes r x o) = true
+hangs (separates n m b) = true
+hangs (links r q) = false
+hangs (unlinks r q) = false
+
+-- When is such a request that meets no refusal answered yes? Exactly where the state that it would leave, with its masks worked out
+-- anew (02, S-6), is sound.
+abbrev pub SoundnessDecides : Type 0
+SoundnessDecides =
+    (t : List ℕ) (q : Ask) → isSound t ≡ true → isCode q ≡ true → inRange q ≡ true → carriesBadPair q ≡ false → known (state t) (decode q) ≡ true
+    → hangs (decode q) ≡ true → roleStep t q .answer ≡ 1 ↔ Sound (changed (state t) (decode q))
 
 -- what the request adds is there, or what it removes is absent; an absent link is no to code 14 (02, S-5)
 unfoldable pub idempotent : State → Request → Bool
