@@ -66,7 +66,7 @@ module _ (m : Machine) (g : Good m) where
   image-sound : isSound (image m) ≡ true
   image-sound = sound-image m w .1 (g .safe)
 
-  image-passes : isImage (state (image m)) ≡ true
+  pub image-passes : isImage (state (image m)) ≡ true
   image-passes = passes (state (encode (shown m))) m w (state-encode (shown m))
 
   pub one-step : (q : Ask) → labelStep (image m) q ≡ pictured (step m q)

@@ -18,6 +18,13 @@ use Rattle.labels.specs.Guard.{labelStep}
 abbrev pub Unchanged : Type 0
 Unchanged = (t : List ℕ) → ((i : ℕ) → word t i < 2 ^ 64) → (q : Ask) → (labelStep t q .answer ≡ 1 → ⊥) → labelStep t q .state ≡ t
 
+-- Does a sound image stay one? Under every label request, refused ones included, so that `labels::serve` may be called again. That
+-- it stays sound is `KeptSound` of the crate labels.
+abbrev pub KeptImage : Type 0
+KeptImage =
+    (t : List ℕ) → ((i : ℕ) → word t i < 2 ^ 64) → (q : Ask) → isSound t ≡ true → isImage (state t) ≡ true
+    → isImage (state (labelStep t q .state)) ≡ true
+
 -- two machine states have the same clearances, labels, seats and openings, of the users, objects, sessions and modes that there are
 pub record Same (m n : Machine) : Type 0 where
   pub clearances : (u : ℕ) → u < 64 → m .clearance u ≡ n .clearance u
