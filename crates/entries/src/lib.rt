@@ -1,7 +1,7 @@
 // What a line asks for where it stands: refusals 10 and 11.
-use lines::Fields;
-use lines::Line;
-use lines::Word;
+use reader::Fields;
+use reader::Line;
+use reader::Word;
 ghost use mathlib.Core.Path.{_≡_};
 ghost use Rattle.entries.specs.Words.{taking, roleItem, latticeItem, itemIn, numbersOf, faultNumber, dueIn, dueOf};
 

@@ -7,7 +7,7 @@ use borrow.Author.Tests.{eq-eqb, ne-eqb}
 use Rattle.bits.proofs.Truth.{if-true, if-false}
 use Rattle.table.specs.Table.{isTable}
 use Rattle.requests.specs.Request.{Ask, ask, Outcome, refuse, accept}
-use Rattle.lines.specs.declared.Line.{Line}
+use Rattle.reader.specs.declared.Line.{Line}
 use Rattle.entries.specs.Words.{dueOf}
 use Rattle.entries.specs.declared.Mode.{Mode}
 use Rattle.entries.specs.declared.Mode.the-variants.{RoleMode, LatticeMode}

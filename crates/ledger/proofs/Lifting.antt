@@ -3,8 +3,8 @@ use Prim.Native.Nat.{ℕ}
 use mathlib.Core.Path.{_≡_, sym, ap, _∙_}
 use mathlib.Core.List.{List}
 use Rattle.requests.specs.Request.{Outcome, refuse}
-use Rattle.lines.specs.declared.Line.{Line}
-use Rattle.lines.specs.declared.Line.the-variants.{Refused}
+use Rattle.reader.specs.declared.Line.{Line}
+use Rattle.reader.specs.declared.Line.the-variants.{Refused}
 use Rattle.entries.specs.Words.{faultNumber, dueOf}
 use Rattle.entries.specs.declared.Fault.the-variants.{WrongForm}
 use Rattle.entries.specs.declared.Due.{Due}

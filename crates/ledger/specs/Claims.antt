@@ -4,7 +4,7 @@ use Rattle.table.specs.Table.{isTable}
 use Rattle.sound.specs.Answers.{isSound}
 use Rattle.image.specs.SetUp.{areLabels}
 use Rattle.image.specs.Claims.{Imaged}
-use Rattle.lines.specs.declared.Line.{Line}
+use Rattle.reader.specs.declared.Line.{Line}
 use Rattle.entries.specs.declared.Mode.{Mode}
 use Rattle.entries.specs.declared.Mode.the-variants.{RoleMode, LatticeMode}
 use Rattle.entries.specs.declared.Phase.{Phase}

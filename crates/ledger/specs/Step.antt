@@ -5,7 +5,7 @@ use Rattle.rbac.specs.Guard.{roleStep, soundStep}
 use Rattle.setup.specs.SetUp.{roleSetUp}
 use Rattle.image.specs.SetUp.{labelSetUp}
 use Rattle.labels.specs.Guard.{labelStep, imageStep}
-use Rattle.lines.specs.declared.Line.{Line}
+use Rattle.reader.specs.declared.Line.{Line}
 use Rattle.entries.specs.declared.Mode.{Mode}
 use Rattle.entries.specs.declared.Mode.the-variants.{RoleMode, LatticeMode}
 use Rattle.entries.specs.declared.Phase.{Phase}

@@ -3,7 +3,7 @@ use entries::Due;
 use entries::Mode;
 use entries::Phase;
 use entries::Setting;
-use lines::Line;
+use reader::Line;
 ghost use mathlib.Core.Path.{_≡_};
 ghost use Rattle.requests.specs.Request.{ask};
 ghost use Rattle.ledger.specs.Store.{store, added, stored, Comes};

@@ -8,21 +8,16 @@ use lib.Dec.{eqb}
 use lib.ListN.{length}
 use borrow.Author.Tests.{not-true}
 use Rattle.bits.proofs.Truth.{and-intro, and-left, and-right}
-use Rattle.lines.specs.Bytes.{newline, every}
-use Rattle.lines.specs.Reader.{finished, stepOf, steps, fed}
-use Rattle.lines.specs.Claims.{LineRead, inOneLine, PieceFed, handed, flat, PiecesFed, FreshRead}
-use Rattle.lines.specs.declared.Reader.{Reader}
-use Rattle.lines.specs.declared.Reader.the-variants.{Letters}
+use Rattle.reader.specs.Bytes.{newline, every}
+use Rattle.reader.specs.Reader.{finished, stepOf, steps}
+use Rattle.reader.specs.declared.Reader.{Reader}
+use Rattle.reader.specs.declared.Reader.the-variants.{Letters}
+use Rattle.reader.proofs.Resume.{steps-append}
+use Rattle.reader.proofs.Claims.{line-read}
+use Rattle.lines.specs.Blocks.{fed}
+use Rattle.lines.specs.Claims.{inOneLine, PieceFed, handed, flat, PiecesFed}
 use Rattle.lines.specs.declared.Fed.{Fed}
-use Rattle.lines.proofs.Resume.{steps-append, finished-joined}
-use Rattle.lines.proofs.Short.{line-joined}
-use Rattle.lines.proofs.Fresh.{fresh-empty}
 use Rattle.lines.proofs.Going.{fed-none, fed-line, fed-byte}
-
-pub line-read : LineRead
-line-read l = finished-joined l ∙ line-joined l
-
--- ---- pieces
 
 -- bytes before others: those are left to a reader that has read these
 fed-append : (s : Reader) (p l : List ℕ) (at : ℕ) → inOneLine p ≡ true → fed s (p ++ l) at ≡ fed (steps s p) l (at + length p)
@@ -63,6 +58,3 @@ pieces-fed ps p rest at h =
       next = ap (λ (f : Fed). f .next) last;
       line-is = ap (λ (f : Fed). finished (f .reader)) last ∙ ap finished (ap (λ (s : Reader). steps s p) before ∙ sym (steps-append (Letters 0) (flat ps) p)) ∙ line-read (flat ps ++ p);
     }
-
-pub fresh-read : FreshRead
-fresh-read = fresh-empty

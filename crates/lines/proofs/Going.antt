@@ -11,13 +11,14 @@ use lib.ListN.{length, getD, drop}
 use lib.Seq.{drop-cons}
 use borrow.Author.Tests.{eq-eqb, ne-eqb}
 use Rattle.bits.proofs.Truth.{if-true, if-false}
-use Rattle.lines.specs.Line.{digit}
-use Rattle.lines.specs.Reader.{letter, wordOf, begun, pushed, stepOf, fed, GoesOn, DigitsGoOn}
-use Rattle.lines.specs.declared.Word.{Word}
-use Rattle.lines.specs.declared.Fields.{Fields}
-use Rattle.lines.specs.declared.Reader.{Reader}
-use Rattle.lines.specs.declared.Reader.the-variants.{Letters, Tab, Digits}
-use Rattle.lines.proofs.Stepping.{letter-least, digit-least, word-tab, digits-tab, letter-step, field-step, digit-step}
+use Rattle.reader.specs.Line.{digit}
+use Rattle.reader.specs.Reader.{letter, wordOf, begun, pushed, stepOf}
+use Rattle.reader.specs.declared.Word.{Word}
+use Rattle.reader.specs.declared.Fields.{Fields}
+use Rattle.reader.specs.declared.Reader.{Reader}
+use Rattle.reader.specs.declared.Reader.the-variants.{Letters, Tab, Digits}
+use Rattle.reader.proofs.Stepping.{letter-least, digit-least, word-tab, digits-tab, letter-step, field-step, digit-step}
+use Rattle.lines.specs.Blocks.{fed, GoesOn, DigitsGoOn}
 
 -- ---- a number of k digits at most
 

@@ -1,15 +1,12 @@
--- What is claimed of the line reader, each as the answer to a question. proofs/Claims.antt proves them. The contract of feed
--- says that the code does what fed says, so that what is claimed of fed holds whatever way through the code a piece takes.
+-- What is claimed of lines read from blocks, each as the answer to a question. proofs/Claims.antt proves them. The contract of
+-- feed says that the code does what fed says, so that what is claimed of fed holds whatever way through the code a piece takes.
 use Rattle.bits.specs.Words.{ℕ, _+_, _≡_, Bool, true, false, List, [], _∷_, _++_, eqb, not, length}
-use Rattle.lines.specs.Bytes.{newline, every, empty}
-use Rattle.lines.specs.Line.{line}
-use Rattle.lines.specs.Reader.{finished, steps, fed, fresh}
-use Rattle.lines.specs.declared.Reader.{Reader}
-use Rattle.lines.specs.declared.Reader.the-variants.{Letters}
-
--- What does the reader answer at the newline? What the definition of a line says of the bytes before it.
-abbrev pub LineRead : Type 0
-LineRead = (l : List ℕ) → finished (steps (Letters 0) l) ≡ line l
+use Rattle.reader.specs.Bytes.{newline, every}
+use Rattle.reader.specs.Line.{line}
+use Rattle.reader.specs.Reader.{finished, steps}
+use Rattle.reader.specs.declared.Reader.{Reader}
+use Rattle.reader.specs.declared.Reader.the-variants.{Letters}
+use Rattle.lines.specs.Blocks.{fed}
 
 -- there is no newline among the bytes
 abbrev pub inOneLine : List ℕ → Bool
@@ -40,7 +37,3 @@ pub record LastPiece (ps : List (List ℕ)) (p rest : List ℕ) (at : ℕ) : Typ
 -- line in one piece, which is the case without pieces before the last.
 abbrev pub PiecesFed : Type 0
 PiecesFed = (ps : List (List ℕ)) (p rest : List ℕ) (at : ℕ) → inOneLine (flat ps ++ p) ≡ true → LastPiece ps p rest at
-
--- Is the reader at a line's start only where no byte of it has been read? Yes.
-abbrev pub FreshRead : Type 0
-FreshRead = (l : List ℕ) → fresh (steps (Letters 0) l) ≡ empty l

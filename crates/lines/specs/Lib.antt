@@ -1,5 +1,3 @@
 -- The crate's definitions, in reading order.
-pub mod Bytes
-pub mod Line
-pub mod Reader
+pub mod Blocks
 pub mod Claims

@@ -1,63 +1,12 @@
-// Reads a transcript's lines in one pass: a usual line at once, and any other from where that left off, a byte at a time.
+// Reads lines from blocks of input in one pass: a usual line at once, and any other from where that left off, a byte at a time.
+use reader::Fields;
+use reader::Reader;
+use reader::Spelled;
+use reader::Word;
 ghost use mathlib.Core.Path.{_≡_};
 ghost use Prim.Native.Nat.{_+_, _≤_};
 ghost use lib.ListN.{drop, length};
-ghost use Rattle.lines.specs.Line.{digit};
-ghost use Rattle.lines.specs.Reader.{letter, wordOf, pushed, stepOf, ended, finished, fresh, fed, GoesOn, DigitsGoOn};
-
-// The words of both modes.
-pub enum Word {
-    Roles,
-    Lattice,
-    Above,
-    Permit,
-    Clear,
-    Label,
-    Run,
-    Open,
-    Close,
-    Start,
-    End,
-    Activate,
-    Drop,
-    Assign,
-    Deassign,
-    Grant,
-    Revoke,
-    Reclear,
-}
-
-// The word that letters spell, if they spell one.
-pub enum Spelled {
-    As(Word),
-    Nothing,
-}
-
-// The numbers of a line: three at most.
-pub enum Fields {
-    Without,
-    One(u64),
-    Two(u64, u64),
-    Three(u64, u64, u64),
-}
-
-// A line that was read, or refusal 10.
-pub enum Line {
-    Read(Word, Fields),
-    Refused,
-}
-
-// Where in a line the reader stands.
-pub enum Reader {
-    // In the word: its letters so far, a byte each in one number.
-    Letters(u64),
-    // Behind a tab.
-    Tab(Word, Fields),
-    // Behind a field's digits: what they are worth so far. Behind the digit 0 that began it no other may stand.
-    Digits(Word, Fields, u64),
-    // The line is refused, whatever follows.
-    Broken,
-}
+ghost use Rattle.lines.specs.Blocks.{fed, GoesOn, DigitsGoOn};
 
 // What a block of input gave: whether the line is whole, where the reader stands at its newline or at the block's end, and
 // the place behind that.
@@ -65,170 +14,6 @@ pub struct Fed {
     pub whole: bool,
     pub reader: Reader,
     pub next: usize,
-}
-
-// The word whose letters are packed in a number, a byte each and the first one highest: `run` is (114 * 256 + 117) * 256 + 110.
-fn word_of(letters: u64) -> Spelled
-    ensures { λ r. ⌜ r ≡ wordOf letters ⌝ }
-{
-    match letters {
-        491495646579 => Spelled::As(Word::Roles),
-        30506450281915237 => Spelled::As(Word::Lattice),
-        418263299685 => Spelled::As(Word::Above),
-        123581013780852 => Spelled::As(Word::Permit),
-        427020345714 => Spelled::As(Word::Clear),
-        465490306412 => Spelled::As(Word::Label),
-        7501166 => Spelled::As(Word::Run),
-        1869636974 => Spelled::As(Word::Open),
-        427021005669 => Spelled::As(Word::Close),
-        495873782388 => Spelled::As(Word::Start),
-        6647396 => Spelled::As(Word::End),
-        7017580640679851109 => Spelled::As(Word::Activate),
-        1685221232 => Spelled::As(Word::Drop),
-        107148485420910 => Spelled::As(Word::Assign),
-        7234295524925990766 => Spelled::As(Word::Deassign),
-        444300619380 => Spelled::As(Word::Grant),
-        125780104276837 => Spelled::As(Word::Revoke),
-        32199625039765874 => Spelled::As(Word::Reclear),
-        _ => Spelled::Nothing,
-    }
-}
-
-// The fields with one more behind them; refused when there are three already.
-fn pushed_on(word: Word, fields: Fields, n: u64) -> Reader
-    ensures { λ r. ⌜ r ≡ pushed word fields n ⌝ }
-{
-    match fields {
-        Fields::Without => Reader::Tab(word, Fields::One(n)),
-        Fields::One(a) => Reader::Tab(word, Fields::Two(a, n)),
-        Fields::Two(a, b) => Reader::Tab(word, Fields::Three(a, b, n)),
-        Fields::Three(_, _, _) => Reader::Broken,
-    }
-}
-
-// a to z.
-fn is_letter(b: u8) -> bool
-    ensures { λ r. ⌜ r ≡ letter b ⌝ }
-{
-    if b < 97 {
-        return false;
-    }
-    b <= 122
-}
-
-// 0 to 9.
-fn is_digit(b: u8) -> bool
-    ensures { λ r. ⌜ r ≡ digit b ⌝ }
-{
-    if b < 48 {
-        return false;
-    }
-    b <= 57
-}
-
-// A byte as a word.
-fn wide(b: u8) -> u64
-    ensures { λ r. ⌜ r ≡ b ⌝ }
-{
-    b as u64
-}
-
-impl Reader {
-    // The reader at a line's first byte.
-    pub fn new() -> Self
-        ensures { λ r. ⌜ r ≡ Reader.Letters 0 ⌝ }
-    {
-        Reader::Letters(0)
-    }
-
-    // The reader one byte further on.
-    pub fn step(self, b: u8) -> Self
-        ensures { λ r. ⌜ r ≡ stepOf self b ⌝ }
-    {
-        match self {
-            Reader::Letters(x) => {
-                if b == 9 {
-                    return match word_of(x) {
-                        Spelled::As(w) => Reader::Tab(w, Fields::Without),
-                        Spelled::Nothing => Reader::Broken,
-                    };
-                }
-                if !is_letter(b) {
-                    return Reader::Broken;
-                }
-                if x < 72057594037927936 {
-                    return Reader::Letters(x * 256 + wide(b));
-                }
-                Reader::Broken
-            }
-            Reader::Tab(w, fs) => {
-                if !is_digit(b) {
-                    return Reader::Broken;
-                }
-                Reader::Digits(w, fs, wide(b) - 48)
-            }
-            Reader::Digits(w, fs, v) => {
-                if b == 9 {
-                    return pushed_on(w, fs, v);
-                }
-                if v == 0 {
-                    return Reader::Broken;
-                }
-                if !is_digit(b) {
-                    return Reader::Broken;
-                }
-                if v < 1844674407370955161 {
-                    return Reader::Digits(w, fs, v * 10 + (wide(b) - 48));
-                }
-                if v == 1844674407370955161 {
-                    if b < 54 {
-                        return Reader::Digits(w, fs, v * 10 + (wide(b) - 48));
-                    }
-                }
-                Reader::Broken
-            }
-            Reader::Broken => Reader::Broken,
-        }
-    }
-
-    // Whether no byte of the line has been read.
-    pub fn is_fresh(self) -> bool
-        ensures { λ r. ⌜ r ≡ fresh self ⌝ }
-    {
-        match self {
-            Reader::Letters(x) => x == 0,
-            Reader::Tab(_, _) => false,
-            Reader::Digits(_, _, _) => false,
-            Reader::Broken => false,
-        }
-    }
-
-    // The line that ends where a tab would have stood.
-    fn ended(self) -> Line
-        ensures { λ r. ⌜ r ≡ ended self ⌝ }
-    {
-        match self {
-            Reader::Tab(w, fs) => Line::Read(w, fs),
-            Reader::Letters(_) => Line::Refused,
-            Reader::Digits(_, _, _) => Line::Refused,
-            Reader::Broken => Line::Refused,
-        }
-    }
-
-    // What the line is, at its newline. (step is not called here, so that it stands in one loop only and is compiled into it.)
-    pub fn finish(self) -> Line
-        ensures { λ r. ⌜ r ≡ finished self ⌝ }
-    {
-        match self {
-            Reader::Letters(x) => match word_of(x) {
-                Spelled::As(w) => Line::Read(w, Fields::Without),
-                Spelled::Nothing => Line::Refused,
-            },
-            Reader::Tab(_, _) => Line::Refused,
-            Reader::Digits(w, fs, n) => pushed_on(w, fs, n).ended(),
-            Reader::Broken => Line::Refused,
-        }
-    }
 }
 
 // Reads block from at to the line's newline, or to its end, a byte at a time.
@@ -284,10 +69,10 @@ fn letters(block: &[u8], at: usize) -> Taken
     let mut x = 0;
     for i in at..at + 8 {
         let b = block[i];
-        if !is_letter(b) {
+        if !reader::is_letter(b) {
             return Taken { value: x, next: i };
         }
-        x = x * 256 + wide(b);
+        x = x * 256 + reader::wide(b);
     }
     Taken {
         value: x,
@@ -307,10 +92,10 @@ fn digits(block: &[u8], at: usize, first: u64) -> Taken
     let mut v = first;
     for i in at..at + 18 {
         let b = block[i];
-        if !is_digit(b) {
+        if !reader::is_digit(b) {
             return Taken { value: v, next: i };
         }
-        v = v * 10 + (wide(b) - 48);
+        v = v * 10 + (reader::wide(b) - 48);
     }
     Taken {
         value: v,
@@ -327,13 +112,13 @@ fn field(s: Reader, block: &[u8], at: usize) -> Reached
     match s {
         Reader::Tab(w, fs) => {
             let b = block[at];
-            if !is_digit(b) {
+            if !reader::is_digit(b) {
                 return Reached {
                     reader: s,
                     next: at,
                 };
             }
-            let n = digits(block, at + 1, wide(b) - 48);
+            let n = digits(block, at + 1, reader::wide(b) - 48);
             let v = n.value;
             let j = n.next;
             if block[j] != 9 {
@@ -343,7 +128,7 @@ fn field(s: Reader, block: &[u8], at: usize) -> Reached
                 };
             }
             Reached {
-                reader: pushed_on(w, fs, v),
+                reader: reader::pushed_on(w, fs, v),
                 next: j + 1,
             }
         }
@@ -382,7 +167,7 @@ fn usual(block: &[u8], at: usize) -> Reached
             next: i,
         };
     }
-    match word_of(x) {
+    match reader::word_of(x) {
         Spelled::As(w) => numbers(w, block, i + 1),
         Spelled::Nothing => Reached {
             reader: Reader::Broken,

@@ -1,8 +1,8 @@
 -- The claims of specs/Claims.antt. Assumes nothing.
 use mathlib.Core.List.{_∷_, _++_, append-assoc}
 use native.Mathlib.Omega.{arith}
-use Rattle.lines.specs.Bytes.{tab}
-use Rattle.lines.proofs.Shown.{shown-number, fields-three}
+use Rattle.reader.specs.Bytes.{tab}
+use Rattle.reader.proofs.Shown.{shown-number, fields-three}
 use Rattle.output.specs.Text.{decimal, column, rowOf, row}
 use Rattle.output.specs.Claims.{DecimalRead, CountedUp, RowRead}
 use Rattle.output.proofs.Counting.{decimal-next}

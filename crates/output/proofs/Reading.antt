@@ -6,7 +6,7 @@ use native.Mathlib.Nat.{pow-succ'}
 use native.Mathlib.Omega.{arith}
 use borrow.Author.Tests.{leb-true, leb-false}
 use Rattle.bits.proofs.Truth.{by-if}
-use Rattle.lines.proofs.Shown.{Shown, shown-one, shown-more}
+use Rattle.reader.proofs.Shown.{Shown, shown-one, shown-more}
 use Rattle.output.specs.Text.{text}
 
 -- a digit fewer for a tenth

@@ -4,7 +4,7 @@ use Rattle.bits.specs.Words.{ℕ, zero, suc, _+_, _/_, _%_, _≡_, List, [], _�
 use mathlib.Core.List.{reverse}
 use lib.ListN.{take}
 use lib.Seq.{sets}
-use Rattle.lines.specs.Bytes.{ascii, tab, newline}
+use Rattle.reader.specs.Bytes.{ascii, tab, newline}
 
 -- the decimal digits of n, the last k at most: one digit, or those of n / 10 and one more
 unfoldable pub text : ℕ → ℕ → List ℕ

@@ -11,9 +11,9 @@ use Rattle.table.specs.Table.{tableLength, isTable}
 use Rattle.table.proofs.Table.{is-table}
 use Rattle.bits.proofs.Tabulate.{length-tabulate, getD-tabulate}
 use Rattle.image.specs.SetUp.{areLabels}
-use Rattle.lines.specs.declared.Reader.the-variants.{Letters}
-use Rattle.lines.proofs.Resume.{steps-none}
-use Rattle.lines.specs.declared.Line.{Line}
+use Rattle.reader.specs.declared.Reader.the-variants.{Letters}
+use Rattle.reader.proofs.Resume.{steps-none}
+use Rattle.reader.specs.declared.Line.{Line}
 use Rattle.output.specs.Text.{header}
 use Rattle.ledger.specs.Store.{Store, withTable}
 use Rattle.ledger.specs.Step.{guarded, unguarded, step}

@@ -7,10 +7,11 @@ use native.Mathlib.Omega.{arith}
 use lib.ListN.{length, drop, length-drop, length-append, drop-of-length-le}
 use lib.Seq.{sets, drop-drop}
 use Rattle.requests.specs.Request.{Outcome}
-use Rattle.lines.specs.Reader.{finished, fed}
-use Rattle.lines.specs.declared.Line.{Line}
-use Rattle.lines.specs.declared.Reader.{Reader}
-use Rattle.lines.specs.declared.Reader.the-variants.{Letters}
+use Rattle.reader.specs.Reader.{finished}
+use Rattle.reader.specs.declared.Line.{Line}
+use Rattle.reader.specs.declared.Reader.{Reader}
+use Rattle.reader.specs.declared.Reader.the-variants.{Letters}
+use Rattle.lines.specs.Blocks.{fed}
 use Rattle.lines.specs.declared.Fed.{Fed}
 use Rattle.output.specs.Text.{row, rowRoom, fitting, Wrote}
 use Rattle.output.proofs.Writing.{length-row, wrote-row, sets-append}

@@ -5,8 +5,8 @@ use mathlib.Core.List.{List, [], _∷_, _++_}
 use lib.Dec.{eqb}
 use Rattle.bits.proofs.Truth.{by-truth, if-true, if-false}
 use Rattle.requests.specs.Request.{Outcome}
-use Rattle.lines.specs.Reader.{stepOf, finished}
-use Rattle.lines.specs.declared.Reader.the-variants.{Letters}
+use Rattle.reader.specs.Reader.{stepOf, finished}
+use Rattle.reader.specs.declared.Reader.the-variants.{Letters}
 use Rattle.output.specs.Text.{row}
 use Rattle.ledger.specs.Store.{Store}
 use Rattle.ledger.specs.Step.{guarded, unguarded}

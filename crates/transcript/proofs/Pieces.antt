@@ -9,7 +9,7 @@ use lib.ListN.{length, drop, drop-of-length-le}
 use lib.Seq.{drop-drop}
 use Rattle.bits.specs.Words.{_and_}
 use Rattle.bits.proofs.Truth.{by-truth, if-true, if-false}
-use Rattle.lines.specs.Reader.{stepOf}
+use Rattle.reader.specs.Reader.{stepOf}
 use Rattle.ledger.specs.Step.{Guards}
 use Rattle.transcript.specs.Stream.{Standing, reading, replied, reply, after, emitted, Stop, full, serving, IsServed}
 

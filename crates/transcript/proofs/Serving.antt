@@ -8,8 +8,9 @@ use lib.Dec.{eqb, ltb}
 use lib.ListN.{length, drop}
 use borrow.Author.Tests.{eq-eqb, ne-eqb, lt-ltb, le-ltb}
 use Rattle.bits.proofs.Truth.{clash, by-truth, and-intro, and-false, false-and, or-left, or-right, false-or, if-true, if-false}
-use Rattle.lines.specs.Reader.{stepOf, fresh, fed}
-use Rattle.lines.specs.declared.Reader.{Reader}
+use Rattle.reader.specs.Reader.{stepOf, fresh}
+use Rattle.reader.specs.declared.Reader.{Reader}
+use Rattle.lines.specs.Blocks.{fed}
 use Rattle.lines.specs.declared.Fed.{Fed}
 use Rattle.lines.proofs.Going.{fed-none, fed-line, fed-byte}
 use Rattle.output.specs.Text.{row, rowRoom}

@@ -6,13 +6,13 @@ use mathlib.Core.List.{List, [], _∷_, _++_, append-nil, append-assoc}
 use lib.Dec.{eqb}
 use Rattle.bits.specs.Words.{if_then_else_}
 use Rattle.bits.proofs.Truth.{by-truth, if-true, if-false}
-use Rattle.lines.specs.Bytes.{empty}
-use Rattle.lines.specs.Line.{line}
-use Rattle.lines.specs.Reader.{steps}
-use Rattle.lines.specs.declared.Reader.{Reader}
-use Rattle.lines.specs.declared.Reader.the-variants.{Letters}
-use Rattle.lines.proofs.Resume.{steps-none, steps-more}
-use Rattle.lines.proofs.Claims.{line-read, fresh-read}
+use Rattle.reader.specs.Bytes.{empty}
+use Rattle.reader.specs.Line.{line}
+use Rattle.reader.specs.Reader.{steps}
+use Rattle.reader.specs.declared.Reader.{Reader}
+use Rattle.reader.specs.declared.Reader.the-variants.{Letters}
+use Rattle.reader.proofs.Resume.{steps-none, steps-more}
+use Rattle.reader.proofs.Claims.{line-read, fresh-read}
 use Rattle.output.specs.Text.{row}
 use Rattle.entries.specs.declared.Fault.the-variants.{WrongForm}
 use Rattle.entries.specs.Words.{faultNumber}

@@ -4,7 +4,7 @@ use Rattle.bits.specs.Words.{ℕ, _-_, _^_, _<_, _≡_, true, List, [], _∷_, 
 use lib.ListN.{drop}
 use Rattle.table.specs.Table.{isTable}
 use Rattle.output.specs.Text.{header, rowRoom}
-use Rattle.lines.specs.declared.Reader.the-variants.{Letters}
+use Rattle.reader.specs.declared.Reader.the-variants.{Letters}
 use Rattle.ledger.specs.Step.{unguarded}
 use Rattle.ledger.specs.Claims.{StoreSound, shows}
 use Rattle.transcript.specs.Stream.{Standing, after, emitted, closing, serving}

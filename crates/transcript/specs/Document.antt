@@ -1,10 +1,10 @@
 -- The whole output of the transcript program as a function of its whole input: the section of 01 on the program.
 use Rattle.bits.specs.Words.{ℕ, _+_, List, [], _∷_, _++_, eqb, if_then_else_, tabulate}
 use Rattle.table.specs.Table.{tableLength}
-use Rattle.lines.specs.Bytes.{newline, empty}
-use Rattle.lines.specs.Line.{line}
-use Rattle.lines.specs.declared.Line.{Line}
-use Rattle.lines.specs.declared.Line.the-variants.{Refused}
+use Rattle.reader.specs.Bytes.{newline, empty}
+use Rattle.reader.specs.Line.{line}
+use Rattle.reader.specs.declared.Line.{Line}
+use Rattle.reader.specs.declared.Line.the-variants.{Refused}
 use Rattle.output.specs.Text.{row, header}
 use Rattle.entries.specs.declared.Phase.the-variants.{Opening}
 use Rattle.ledger.specs.Store.{Store, store}

@@ -2,10 +2,10 @@
 -- what Document says of the whole input.
 use Rattle.bits.specs.Words.{ℕ, _+_, _-_, _^_, _≤_, _≡_, Bool, true, false, List, [], _∷_, _++_, eqb, ltb, length, _and_, _or_, if_then_else_}
 use lib.Seq.{sets}
-use Rattle.lines.specs.Bytes.{newline}
-use Rattle.lines.specs.Reader.{stepOf, finished, fresh}
-use Rattle.lines.specs.declared.Reader.{Reader}
-use Rattle.lines.specs.declared.Reader.the-variants.{Letters}
+use Rattle.reader.specs.Bytes.{newline}
+use Rattle.reader.specs.Reader.{stepOf, finished, fresh}
+use Rattle.reader.specs.declared.Reader.{Reader}
+use Rattle.reader.specs.declared.Reader.the-variants.{Letters}
 use Rattle.output.specs.Text.{row, rowRoom}
 use Rattle.entries.specs.declared.Phase.the-variants.{Opening}
 use Rattle.entries.specs.declared.Fault.the-variants.{WrongForm}

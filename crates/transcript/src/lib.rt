@@ -1,8 +1,8 @@
 // Transcripts in blocks of input and output.
 use entries::Fault;
 use entries::Phase;
-use lines::Reader;
 use output::ROW;
+use reader::Reader;
 ghost use mathlib.Core.Path.{_≡_};
 ghost use mathlib.Core.Bool.{true};
 ghost use Prim.Native.Nat.{_≤_};

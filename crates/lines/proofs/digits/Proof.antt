@@ -8,9 +8,9 @@ use native.Mathlib.Omega.{arith}
 use lib.Dec.{lit<}
 use lib.ListN.{getD}
 use Rattle.bits.proofs.Truth.{confirmed}
-use Rattle.lines.specs.Line.{digit}
-use Rattle.lines.specs.Reader.{DigitsGoOn}
-use Rattle.lines.proofs.Stepping.{digit-least, digit-most}
+use Rattle.reader.specs.Line.{digit}
+use Rattle.reader.proofs.Stepping.{digit-least, digit-most}
+use Rattle.lines.specs.Blocks.{DigitsGoOn}
 use Rattle.lines.proofs.Going.{grown, below, digit-on}
 use Rattle.lines.proofs.digits.Statement.{statement}
 use Rattle.lines.proofs.digits.Tie as tie

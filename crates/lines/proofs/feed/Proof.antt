@@ -1,7 +1,7 @@
 -- `feed` meets its contract. Assumes nothing.
 use borrow.Author.Needs.{needs}
 use mathlib.Core.Path.{sym, _∙_}
-use Rattle.lines.proofs.Fresh.{fresh-new}
+use Rattle.reader.proofs.Fresh.{fresh-new}
 use Rattle.lines.proofs.Going.{same-on}
 use Rattle.lines.proofs.feed.Statement.{statement}
 use Rattle.lines.proofs.feed.Tie as tie

@@ -5,7 +5,7 @@ use mathlib.Core.Path.{refl, sym, _∙_}
 use native.Mathlib.Omega.{arith}
 use lib.ListN.{getD}
 use Rattle.bits.proofs.Truth.{confirmed}
-use Rattle.lines.proofs.Stepping.{digit-least, digit-most}
+use Rattle.reader.proofs.Stepping.{digit-least, digit-most}
 use Rattle.lines.proofs.Going.{same-on, number-on, field-over}
 use Rattle.lines.proofs.field.Statement.{statement}
 use Rattle.lines.proofs.field.Tie as tie

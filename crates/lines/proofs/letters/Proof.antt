@@ -8,9 +8,10 @@ use lib.Dec.{lit<}
 use lib.ListN.{getD}
 use mathlib.Core.Bool.{true}
 use Rattle.bits.proofs.Truth.{confirmed}
-use Rattle.lines.specs.Reader.{letter, GoesOn}
-use Rattle.lines.specs.declared.Reader.the-variants.{Letters}
-use Rattle.lines.proofs.Stepping.{letter-most}
+use Rattle.reader.specs.Reader.{letter}
+use Rattle.reader.specs.declared.Reader.the-variants.{Letters}
+use Rattle.reader.proofs.Stepping.{letter-most}
+use Rattle.lines.specs.Blocks.{GoesOn}
 use Rattle.lines.proofs.Going.{grown, below, letter-on}
 use Rattle.lines.proofs.letters.Statement.{statement}
 use Rattle.lines.proofs.letters.Tie as tie

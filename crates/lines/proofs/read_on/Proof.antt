@@ -3,7 +3,7 @@ use borrow.Author.Needs.{needs}
 use Prim.Native.Nat.{_-_}
 use mathlib.Core.Path.{_≡_, refl, sym, _∙_}
 use lib.ListN.{drop-of-length-le, length, drop}
-use Rattle.lines.specs.Reader.{fed}
+use Rattle.lines.specs.Blocks.{fed}
 use Rattle.lines.proofs.Going.{fed-none, byte-on, line-on}
 use Rattle.lines.proofs.read_on.Statement.{statement}
 use Rattle.lines.proofs.read_on.Tie as tie

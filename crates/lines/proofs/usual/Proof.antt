@@ -3,7 +3,7 @@ use borrow.Author.Needs.{needs}
 use Prim.Native.Nat.{_+_}
 use mathlib.Core.Path.{sym, ap, _∙_}
 use native.Mathlib.Omega.{arith}
-use Rattle.lines.specs.Reader.{begun}
+use Rattle.reader.specs.Reader.{begun}
 use Rattle.lines.proofs.Going.{same-on, word-over}
 use Rattle.lines.proofs.usual.Statement.{statement}
 use Rattle.lines.proofs.usual.Tie as tie

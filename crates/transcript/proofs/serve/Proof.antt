@@ -10,7 +10,7 @@ use native.Mathlib.Omega.{arith}
 use lib.Dec.{lit≤}
 use lib.ListN.{length, take, drop}
 use Rattle.bits.proofs.Truth.{confirmed, refuted}
-use Rattle.lines.specs.declared.Reader.{Reader}
+use Rattle.reader.specs.declared.Reader.{Reader}
 use Rattle.output.specs.Text.{decimal}
 use Rattle.output.proofs.Counting.{number-shown, count-shown, row-numbered}
 use Rattle.entries.specs.declared.Phase.{Phase}

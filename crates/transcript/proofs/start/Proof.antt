@@ -1,7 +1,7 @@
 -- `start` meets its contract. Assumes nothing.
 use borrow.Author.Needs.{needs}
 use mathlib.Core.Path.{ap}
-use Rattle.lines.specs.declared.Reader.{Reader}
+use Rattle.reader.specs.declared.Reader.{Reader}
 use Rattle.entries.specs.declared.Phase.the-variants.{Opening}
 use Rattle.transcript.proofs.start.Statement.{statement}
 use Rattle.transcript.proofs.start.Tie as tie

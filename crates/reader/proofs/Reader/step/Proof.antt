@@ -4,10 +4,10 @@ use Prim.Native.Nat.{_≤_}
 use mathlib.Core.Path.{sym}
 use native.Mathlib.Omega.{arith}
 use Rattle.bits.proofs.Truth.{confirmed, refuted}
-use Rattle.lines.specs.Reader.{stepOf, begun}
-use Rattle.lines.proofs.Stepping.{digit-least, digit-most, word-tab, digits-tab, letter-step, letter-none, letter-over, field-step, field-none, digit-step, nought-step, digit-none, digit-over}
-use Rattle.lines.proofs.Reader.step.Statement.{statement}
-use Rattle.lines.proofs.Reader.step.Tie as tie
+use Rattle.reader.specs.Reader.{stepOf, begun}
+use Rattle.reader.proofs.Stepping.{digit-least, digit-most, word-tab, digits-tab, letter-step, letter-none, letter-over, field-step, field-none, digit-step, nought-step, digit-none, digit-over}
+use Rattle.reader.proofs.Reader.step.Statement.{statement}
+use Rattle.reader.proofs.Reader.step.Tie as tie
 
 -- ---- in the word
 

@@ -1,8 +1,8 @@
 -- `is_fresh` meets its contract. Assumes nothing.
 use borrow.Author.Needs.{needs}
-use Rattle.lines.specs.Reader.{fresh}
-use Rattle.lines.proofs.Reader.is_fresh.Statement.{statement}
-use Rattle.lines.proofs.Reader.is_fresh.Tie as tie
+use Rattle.reader.specs.Reader.{fresh}
+use Rattle.reader.proofs.Reader.is_fresh.Statement.{statement}
+use Rattle.reader.proofs.Reader.is_fresh.Tie as tie
 
 pub is-fresh-spec : {M : Type 1} → statement M
 unfolding fresh

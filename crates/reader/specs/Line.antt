@@ -3,15 +3,15 @@
 use Prim.Native.Char.{code}
 use Rattle.bits.specs.Words.{ℕ, _+_, _-_, _*_, _^_, Bool, false, List, [], _∷_, eqb, leb, ltb, length, _and_, if_then_else_}
 use mathlib.Core.Option.{Option, some, none}
-use Rattle.lines.specs.Bytes.{ascii, tab, every, empty, same}
-use Rattle.lines.specs.declared.Word.{Word}
-use Rattle.lines.specs.declared.Word.the-variants.{Roles, Lattice, Above, Permit, Clear, Label, Run, Open, Close, Start, End, Activate, Drop, Assign, Deassign, Grant, Revoke, Reclear}
-use Rattle.lines.specs.declared.Spelled.{Spelled}
-use Rattle.lines.specs.declared.Spelled.the-variants.{As, Nothing}
-use Rattle.lines.specs.declared.Fields.{Fields}
-use Rattle.lines.specs.declared.Fields.the-variants.{Without, One, Two, Three}
-use Rattle.lines.specs.declared.Line.{Line}
-use Rattle.lines.specs.declared.Line.the-variants.{Read, Refused}
+use Rattle.reader.specs.Bytes.{ascii, tab, every, empty, same}
+use Rattle.reader.specs.declared.Word.{Word}
+use Rattle.reader.specs.declared.Word.the-variants.{Roles, Lattice, Above, Permit, Clear, Label, Run, Open, Close, Start, End, Activate, Drop, Assign, Deassign, Grant, Revoke, Reclear}
+use Rattle.reader.specs.declared.Spelled.{Spelled}
+use Rattle.reader.specs.declared.Spelled.the-variants.{As, Nothing}
+use Rattle.reader.specs.declared.Fields.{Fields}
+use Rattle.reader.specs.declared.Fields.the-variants.{Without, One, Two, Three}
+use Rattle.reader.specs.declared.Line.{Line}
+use Rattle.reader.specs.declared.Line.the-variants.{Read, Refused}
 
 -- the bytes before the first tab
 unfoldable pub first : List ℕ → List ℕ

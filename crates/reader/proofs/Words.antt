@@ -7,14 +7,14 @@ use native.Mathlib.Omega.{arith}
 use lib.Dec.{eqb, ltb, lit<}
 use borrow.Author.Tests.{eqb-true, eq-eqb, ne-eqb}
 use Rattle.bits.specs.Words.{_and_, if_then_else_}
-use Rattle.lines.specs.Bytes.{every, same}
-use Rattle.lines.specs.Line.{Entry, words, find, spelled}
-use Rattle.lines.specs.Reader.{letter, packed, known, wordOf}
-use Rattle.lines.specs.declared.Spelled.{Spelled}
-use Rattle.lines.specs.declared.Spelled.the-variants.{Nothing}
+use Rattle.reader.specs.Bytes.{every, same}
+use Rattle.reader.specs.Line.{Entry, words, find, spelled}
+use Rattle.reader.specs.Reader.{letter, packed, known, wordOf}
+use Rattle.reader.specs.declared.Spelled.{Spelled}
+use Rattle.reader.specs.declared.Spelled.the-variants.{Nothing}
 use Rattle.bits.proofs.Truth.{clash, by-truth, and-left, and-right, and-intro, if-true, if-false, if-same}
-use Rattle.lines.proofs.Stepping.{letter-least, letter-most}
-use Rattle.lines.proofs.Values.{along, total, along-total}
+use Rattle.reader.proofs.Stepping.{letter-least, letter-most}
+use Rattle.reader.proofs.Values.{along, total, along-total}
 
 -- ---- equal lists
 

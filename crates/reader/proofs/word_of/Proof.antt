@@ -2,9 +2,9 @@
 use mathlib.Core.Path.{sym, ap}
 use borrow.Author.Tests.{ne-eqb}
 use Rattle.bits.specs.Words.{if_then_else_}
-use Rattle.lines.specs.Reader.{wordOf}
-use Rattle.lines.proofs.word_of.Statement.{statement}
-use Rattle.lines.proofs.word_of.Tie as tie
+use Rattle.reader.specs.Reader.{wordOf}
+use Rattle.reader.proofs.word_of.Statement.{statement}
+use Rattle.reader.proofs.word_of.Tie as tie
 
 -- a number that is none of them
 nothing : tie.Need-returns-19

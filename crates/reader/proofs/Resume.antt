@@ -7,21 +7,21 @@ use mathlib.Core.Option.{Option, some, none}
 use lib.Dec.{eqb, ltb}
 use borrow.Author.Tests.{eqb-true}
 use Rattle.bits.specs.Words.{_and_, if_then_else_}
-use Rattle.lines.specs.Line.{first, others, spelled, digit, number, behind, push, fields, joined}
-use Rattle.lines.specs.Reader.{letter, wordOf, begun, tabbed, pushed, stepOf, ended, finished, steps}
-use Rattle.lines.specs.declared.Word.{Word}
-use Rattle.lines.specs.declared.Spelled.{Spelled}
-use Rattle.lines.specs.declared.Spelled.the-variants.{As, Nothing}
-use Rattle.lines.specs.declared.Fields.{Fields}
-use Rattle.lines.specs.declared.Fields.the-variants.{Without}
-use Rattle.lines.specs.declared.Line.{Line}
-use Rattle.lines.specs.declared.Line.the-variants.{Refused}
-use Rattle.lines.specs.declared.Reader.{Reader}
-use Rattle.lines.specs.declared.Reader.the-variants.{Letters, Tab, Digits, Broken}
-use Rattle.lines.proofs.Words.{lettersFrom, letters-spelled}
+use Rattle.reader.specs.Line.{first, others, spelled, digit, number, behind, push, fields, joined}
+use Rattle.reader.specs.Reader.{letter, wordOf, begun, tabbed, pushed, stepOf, ended, finished, steps}
+use Rattle.reader.specs.declared.Word.{Word}
+use Rattle.reader.specs.declared.Spelled.{Spelled}
+use Rattle.reader.specs.declared.Spelled.the-variants.{As, Nothing}
+use Rattle.reader.specs.declared.Fields.{Fields}
+use Rattle.reader.specs.declared.Fields.the-variants.{Without}
+use Rattle.reader.specs.declared.Line.{Line}
+use Rattle.reader.specs.declared.Line.the-variants.{Refused}
+use Rattle.reader.specs.declared.Reader.{Reader}
+use Rattle.reader.specs.declared.Reader.the-variants.{Letters, Tab, Digits, Broken}
+use Rattle.reader.proofs.Words.{lettersFrom, letters-spelled}
 use Rattle.bits.proofs.Truth.{by-truth, if-true, if-false}
-use Rattle.lines.proofs.Stepping.{word-tab, field-tab, digits-tab}
-use Rattle.lines.proofs.Values.{along, digitsFrom, number-none, number-along}
+use Rattle.reader.proofs.Stepping.{word-tab, field-tab, digits-tab}
+use Rattle.reader.proofs.Values.{along, digitsFrom, number-none, number-along}
 
 -- ---- a line in pieces
 

@@ -10,19 +10,19 @@ use lib.Dec.{eqb, leb, ltb, lit<}
 use lib.ListN.{length}
 use borrow.Author.Tests.{eqb-false, ltb-true, leb-true, leb-false, ltb-false}
 use Rattle.bits.specs.Words.{_and_}
-use Rattle.lines.specs.Bytes.{same}
-use Rattle.lines.specs.Line.{Entry, words, first, others, find, spelled, digit, worth, plain, number, behind, push, fields, joined, line}
-use Rattle.lines.specs.declared.Word.{Word}
-use Rattle.lines.specs.declared.Spelled.{Spelled}
-use Rattle.lines.specs.declared.Spelled.the-variants.{As, Nothing}
-use Rattle.lines.specs.declared.Fields.{Fields}
-use Rattle.lines.specs.declared.Fields.the-variants.{Without, One, Two, Three}
-use Rattle.lines.specs.declared.Line.the-variants.{Refused}
+use Rattle.reader.specs.Bytes.{same}
+use Rattle.reader.specs.Line.{Entry, words, first, others, find, spelled, digit, worth, plain, number, behind, push, fields, joined, line}
+use Rattle.reader.specs.declared.Word.{Word}
+use Rattle.reader.specs.declared.Spelled.{Spelled}
+use Rattle.reader.specs.declared.Spelled.the-variants.{As, Nothing}
+use Rattle.reader.specs.declared.Fields.{Fields}
+use Rattle.reader.specs.declared.Fields.the-variants.{Without, One, Two, Three}
+use Rattle.reader.specs.declared.Line.the-variants.{Refused}
 use Rattle.bits.proofs.Truth.{by-truth, and-left, and-right, if-true, if-false}
-use Rattle.lines.proofs.Stepping.{digit-least}
-use Rattle.lines.proofs.Shown.{empty-is}
-use Rattle.lines.proofs.Words.{same-true}
-use Rattle.lines.proofs.Resume.{fields-none}
+use Rattle.reader.proofs.Stepping.{digit-least}
+use Rattle.reader.proofs.Shown.{empty-is}
+use Rattle.reader.proofs.Words.{same-true}
+use Rattle.reader.proofs.Resume.{fields-none}
 
 -- ---- the pieces make up the line
 

@@ -10,9 +10,9 @@ use lib.Dec.{eqb, ltb}
 use borrow.Author.Tests.{eqb-true, eqb-false, ltb-true, lt-ltb}
 use Rattle.bits.specs.Words.{_and_, if_then_else_}
 use Rattle.bits.proofs.Truth.{clash, by-truth, is-false, and-intro, and-left, and-right, true-and, false-and, and-false, if-true, if-false}
-use Rattle.lines.specs.Bytes.{every, empty}
-use Rattle.lines.specs.Line.{digit, worth, plain, number}
-use Rattle.lines.proofs.Stepping.{digit-least, digit-most}
+use Rattle.reader.specs.Bytes.{every, empty}
+use Rattle.reader.specs.Line.{digit, worth, plain, number}
+use Rattle.reader.proofs.Stepping.{digit-least, digit-most}
 
 -- ---- any base
 

@@ -8,10 +8,10 @@ use native.Mathlib.Omega.{arith}
 use lib.Dec.{eqb}
 use borrow.Author.Tests.{eqb-true, le-leb, lt-ltb, ne-eqb}
 use Rattle.bits.proofs.Truth.{clash, by-truth, and-intro, and-left, and-right, false-and, if-true, if-false, by-if, if-same}
-use Rattle.lines.specs.Bytes.{tab, every, empty}
-use Rattle.lines.specs.Line.{first, others, digit, worth, plain, number, behind, push, fields}
-use Rattle.lines.specs.declared.Fields.the-variants.{Without, Three}
-use Rattle.lines.proofs.Stepping.{digit-least}
+use Rattle.reader.specs.Bytes.{tab, every, empty}
+use Rattle.reader.specs.Line.{first, others, digit, worth, plain, number, behind, push, fields}
+use Rattle.reader.specs.declared.Fields.the-variants.{Without, Three}
+use Rattle.reader.proofs.Stepping.{digit-least}
 
 pub empty-is : (l : List ℕ) → empty l ≡ true → l ≡ []
 unfolding empty

@@ -1,21 +1,19 @@
 -- The reader, a byte at a time: where it stands after each, and what it makes of the line at its end. Claims says that
--- this is what Line says of the whole line, however it is cut. The code reads a usual line faster, to the same end.
+-- this is what Line says of the whole line.
 use Prim.Native.Char.{code}
-use Rattle.bits.specs.Words.{ℕ, _+_, _-_, _*_, _^_, _≡_, Bool, true, false, List, [], _∷_, eqb, leb, ltb, _and_, if_then_else_}
+use Rattle.bits.specs.Words.{ℕ, _+_, _-_, _*_, _^_, Bool, false, List, [], _∷_, eqb, leb, ltb, _and_, if_then_else_}
 use mathlib.Core.Option.{Option, some, none}
-use lib.ListN.{drop}
-use Rattle.lines.specs.Bytes.{tab, newline}
-use Rattle.lines.specs.Line.{Entry, words, digit, behind}
-use Rattle.lines.specs.declared.Word.{Word}
-use Rattle.lines.specs.declared.Spelled.{Spelled}
-use Rattle.lines.specs.declared.Spelled.the-variants.{As, Nothing}
-use Rattle.lines.specs.declared.Fields.{Fields}
-use Rattle.lines.specs.declared.Fields.the-variants.{Without}
-use Rattle.lines.specs.declared.Line.{Line}
-use Rattle.lines.specs.declared.Line.the-variants.{Read, Refused}
-use Rattle.lines.specs.declared.Reader.{Reader}
-use Rattle.lines.specs.declared.Reader.the-variants.{Letters, Tab, Digits, Broken}
-use Rattle.lines.specs.declared.Fed.{Fed}
+use Rattle.reader.specs.Bytes.{tab}
+use Rattle.reader.specs.Line.{Entry, words, digit, behind}
+use Rattle.reader.specs.declared.Word.{Word}
+use Rattle.reader.specs.declared.Spelled.{Spelled}
+use Rattle.reader.specs.declared.Spelled.the-variants.{As, Nothing}
+use Rattle.reader.specs.declared.Fields.{Fields}
+use Rattle.reader.specs.declared.Fields.the-variants.{Without}
+use Rattle.reader.specs.declared.Line.{Line}
+use Rattle.reader.specs.declared.Line.the-variants.{Read, Refused}
+use Rattle.reader.specs.declared.Reader.{Reader}
+use Rattle.reader.specs.declared.Reader.the-variants.{Letters, Tab, Digits, Broken}
 
 -- a to z
 abbrev pub letter : ℕ → Bool
@@ -78,24 +76,9 @@ unfoldable pub steps : Reader → List ℕ → Reader
 steps s [] = s
 steps s (b ∷ l) = steps (stepOf s b) l
 
--- bytes from a place of a block on: the line is whole at the first newline, or the block is used up
-unfoldable pub fed : Reader → List ℕ → ℕ → Fed
-fed s [] at = record { whole = false; reader = s; next = at }
-fed s (b ∷ l) at = if eqb b newline then record { whole = true; reader = s; next = at + 1 } else fed (stepOf s b) l (at + 1)
-
 -- no byte of the line has been read
 unfoldable pub fresh : Reader → Bool
 fresh (Letters x) = eqb x 0
 fresh (Tab w fs) = false
 fresh (Digits w fs v) = false
 fresh Broken = false
-
--- ---- for the functions that read a usual line
-
--- the reader that stands at a place of a block as s goes on from another place as t: what comes of the block is the same
-abbrev pub GoesOn : List ℕ → Reader → ℕ → Reader → ℕ → Type 0
-GoesOn block s at t next = fed s (drop at block) at ≡ fed t (drop next block) next
-
--- the same in a field, whatever the word and the fields before it: digits that are worth v, and those that are worth v′
-abbrev pub DigitsGoOn : List ℕ → ℕ → ℕ → ℕ → ℕ → Type 0
-DigitsGoOn block v at v′ next = (w : Word) (fs : Fields) → GoesOn block (Digits w fs v) at (Digits w fs v′) next

@@ -1,9 +1,9 @@
 -- `pushed_on` meets its contract. Assumes nothing.
 use borrow.Author.Needs.{needs}
-use Rattle.lines.specs.Line.{behind}
-use Rattle.lines.specs.Reader.{tabbed, pushed}
-use Rattle.lines.proofs.pushed_on.Statement.{statement}
-use Rattle.lines.proofs.pushed_on.Tie as tie
+use Rattle.reader.specs.Line.{behind}
+use Rattle.reader.specs.Reader.{tabbed, pushed}
+use Rattle.reader.proofs.pushed_on.Statement.{statement}
+use Rattle.reader.proofs.pushed_on.Tie as tie
 
 pub pushed-on-spec : {M : Type 1} → statement M
 unfolding pushed tabbed behind

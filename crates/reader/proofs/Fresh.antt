@@ -7,16 +7,16 @@ use mathlib.Core.Option.{Option, some, none}
 use native.Mathlib.Omega.{arith}
 use borrow.Author.Tests.{eqb-true, ne-eqb}
 use Rattle.bits.proofs.Truth.{clash, and-left, by-if}
-use Rattle.lines.specs.Bytes.{empty}
-use Rattle.lines.specs.Line.{behind}
-use Rattle.lines.specs.Reader.{wordOf, begun, tabbed, pushed, stepOf, steps, fresh}
-use Rattle.lines.specs.declared.Word.{Word}
-use Rattle.lines.specs.declared.Spelled.{Spelled}
-use Rattle.lines.specs.declared.Spelled.the-variants.{As, Nothing}
-use Rattle.lines.specs.declared.Fields.{Fields}
-use Rattle.lines.specs.declared.Reader.{Reader}
-use Rattle.lines.specs.declared.Reader.the-variants.{Letters, Tab, Digits, Broken}
-use Rattle.lines.proofs.Stepping.{letter-least}
+use Rattle.reader.specs.Bytes.{empty}
+use Rattle.reader.specs.Line.{behind}
+use Rattle.reader.specs.Reader.{wordOf, begun, tabbed, pushed, stepOf, steps, fresh}
+use Rattle.reader.specs.declared.Word.{Word}
+use Rattle.reader.specs.declared.Spelled.{Spelled}
+use Rattle.reader.specs.declared.Spelled.the-variants.{As, Nothing}
+use Rattle.reader.specs.declared.Fields.{Fields}
+use Rattle.reader.specs.declared.Reader.{Reader}
+use Rattle.reader.specs.declared.Reader.the-variants.{Letters, Tab, Digits, Broken}
+use Rattle.reader.proofs.Stepping.{letter-least}
 
 fresh-begun : (o : Spelled) → fresh (begun o) ≡ false
 unfolding fresh begun

@@ -1,9 +1,9 @@
 -- `finish` meets its contract. Assumes nothing.
 use borrow.Author.Needs.{needs}
-use Rattle.lines.specs.Reader.{begun, stepOf, ended, finished}
-use Rattle.lines.proofs.Stepping.{word-tab, field-tab, digits-tab}
-use Rattle.lines.proofs.Reader.finish.Statement.{statement}
-use Rattle.lines.proofs.Reader.finish.Tie as tie
+use Rattle.reader.specs.Reader.{begun, stepOf, ended, finished}
+use Rattle.reader.proofs.Stepping.{word-tab, field-tab, digits-tab}
+use Rattle.reader.proofs.Reader.finish.Statement.{statement}
+use Rattle.reader.proofs.Reader.finish.Tie as tie
 
 pub finish-spec : {M : Type 1} → statement M
 unfolding finished stepOf ended begun

@@ -6,11 +6,11 @@ use native.Mathlib.Omega.{arith}
 use lib.Dec.{leb, ltb}
 use borrow.Author.Tests.{ne-eqb, lt-ltb, le-ltb, leb-true}
 use Rattle.bits.proofs.Truth.{if-true, if-false, and-left, and-right, and-intro, and-false, false-and}
-use Rattle.lines.specs.Line.{digit}
-use Rattle.lines.specs.Reader.{letter, wordOf, begun, pushed, stepOf}
-use Rattle.lines.specs.declared.Word.{Word}
-use Rattle.lines.specs.declared.Fields.{Fields}
-use Rattle.lines.specs.declared.Reader.the-variants.{Letters, Tab, Digits, Broken}
+use Rattle.reader.specs.Line.{digit}
+use Rattle.reader.specs.Reader.{letter, wordOf, begun, pushed, stepOf}
+use Rattle.reader.specs.declared.Word.{Word}
+use Rattle.reader.specs.declared.Fields.{Fields}
+use Rattle.reader.specs.declared.Reader.the-variants.{Letters, Tab, Digits, Broken}
 
 -- ---- bytes
 

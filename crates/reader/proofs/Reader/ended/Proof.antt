@@ -1,8 +1,8 @@
 -- `ended` meets its contract. Assumes nothing.
 use borrow.Author.Needs.{needs}
-use Rattle.lines.specs.Reader.{ended}
-use Rattle.lines.proofs.Reader.ended.Statement.{statement}
-use Rattle.lines.proofs.Reader.ended.Tie as tie
+use Rattle.reader.specs.Reader.{ended}
+use Rattle.reader.proofs.Reader.ended.Statement.{statement}
+use Rattle.reader.proofs.Reader.ended.Tie as tie
 
 pub ended-spec : {M : Type 1} → statement M
 unfolding ended
