@@ -406,19 +406,33 @@ fn a_killed_build() {
     assert_eq!(r.says(""), (0, HEADER.into(), format!("{BUILDING}{PROVED}")));
 }
 
-/// Without flock nothing is built, and a built program runs.
-#[test]
-fn no_flock() {
-    let r = Repository::new("no_flock");
-    for tool in ["awk", "cat", "dirname", "find", "head", "mkdir", "mv", "rm", "sh", "touch"] {
+/// The tools that `bin/guard` needs, alone on a path with those of the repository; returns the path.
+fn alone(r: &Repository, more: &[&str]) -> PathBuf {
+    for tool in ["awk", "cat", "dirname", "find", "head", "mkdir", "mv", "rm", "sh", "touch"].iter().chain(more) {
         let found = Command::new("sh").args(["-c", &format!("command -v {tool}")]).output().unwrap().stdout;
         let found = String::from_utf8(found).unwrap();
         std::os::unix::fs::symlink(found.trim_end(), r.at("tools").join(tool)).unwrap();
     }
-    let path = r.at("tools");
+    r.at("tools")
+}
+
+/// Without flock nothing is built, and a built program runs.
+#[test]
+fn no_flock() {
+    let r = Repository::new("no_flock");
+    let path = alone(&r, &[]);
     let output = r.command().env("PATH", &path).output().unwrap();
     assert_eq!(result(output), (2, String::new(), "guard: building needs flock, of util-linux\n".into()));
     assert_eq!(r.says("").0, 0);
     let output = r.command().env("PATH", &path).stdin(Stdio::null()).output().unwrap();
     assert_eq!(result(output), (0, HEADER.into(), String::new()));
+}
+
+/// Without rt nothing is built.
+#[test]
+fn no_rt() {
+    let r = Repository::new("no_rt");
+    fs::remove_file(r.at("tools").join("rt")).unwrap();
+    let output = r.command().env("PATH", alone(&r, &["flock"])).output().unwrap();
+    assert_eq!(result(output), (2, String::new(), "guard: building needs rt, the Rattle toolchain\n".into()));
 }
