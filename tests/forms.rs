@@ -294,3 +294,24 @@ fn nothing_is_set_up_at_the_start() {
     }
     assert_eq!(answers(input.as_bytes()), wanted, "lattice");
 }
+
+/// The third field of a start in `roles` is a set of roles: each must be authorised, and no number below 2^64 is too large.
+#[test]
+fn starts_with_roles() {
+    check(&[
+        ("roles", 1),
+        ("above 5 3", 1),
+        ("above 3 1", 1),
+        ("run", 1),
+        ("assign 2 3", 1),
+        ("start 0 2", 10),
+        ("start 0 2 10", 1),
+        ("deassign 2 3", 0),
+        ("start 1 2 40", 0),
+        ("start 1 2 18446744073709551615", 0),
+        ("start 1 2 18446744073709551616", 10),
+        ("start 32 2 18446744073709551615", 16),
+        ("start 1 2 0", 1),
+        ("start 1 2 8", 0),
+    ]);
+}
