@@ -4,30 +4,33 @@
  * Link with libsheetguard.a, which `rt staticlib sheetguard` writes to target/staticlib (x86-64 Linux).
  *
  * The guard keeps nothing. The caller lends it a table of SHEETGUARD_WORDS words at each call and stores the table as it
- * likes; sheetguard_compare_labels alone takes none. A programmer who has to store, restore or migrate one finds in
- * docs/TABLE.md the layout of the words, what sound means, which fault gets which refusal, and byte order. For readers of a
- * backup the table keeps what each session may open: word 1096 + 8 * session + mode is the set of objects that are effective
- * for the session in this mode. Every YES leaves these words true, and a table where one is not is not sound. Every function
- * returns, whatever the words and numbers are, and answers with a number:
+ * likes; sheetguard_compare_labels and sheetguard_statement alone take none. A programmer who has to store, restore or
+ * migrate one finds in docs/TABLE.md the layout of the words, what sound means, which fault gets which refusal, and byte
+ * order. For readers of a backup the table keeps what each session may open: word 1096 + 8 * session + mode is the set of
+ * objects that are effective for the session in this mode. Every YES leaves these words true, and a table where one is not
+ * is not sound. Every function returns, whatever the words and numbers are, and answers with a number:
  *
- *     SHEETGUARD_YES, SHEETGUARD_NO, or a refusal, 12 to 21, the first that fits in the order of the numbers (of two
- *     tables, the first table's before the second's). In place of yes and no sheetguard_compare_labels answers
- *     SHEETGUARD_EQUAL, SHEETGUARD_ABOVE, SHEETGUARD_BELOW or SHEETGUARD_APART.
+ *     SHEETGUARD_YES, SHEETGUARD_NO, or a refusal, 12 to 23, the first that fits in the order of the numbers (of two
+ *     tables, the first table's before the second's), 23 only in place of a yes. In place of yes and no
+ *     sheetguard_compare_labels answers SHEETGUARD_EQUAL, SHEETGUARD_ABOVE, SHEETGUARD_BELOW or SHEETGUARD_APART.
  *
  * A no and a refusal leave all that is lent unchanged, but for *spent, which every label request writes: 0 at a refusal.
- * Of the seven functions that take a table four change it, and at a yes alone: the two set-ups and the two requests. A
- * request may write words and put them back before it answers no, so that its table has to be writable memory. The other
- * three only read it.
+ * Of the eight functions that take a table five change it, and at a yes alone: the two set-ups, the two requests and the
+ * opening with a tally. A request may write words and put them back before it answers no, so that its table has to be
+ * writable memory. The other three only read it.
+ *
+ * Who bills openings keeps a tally beside the table, stores it as well, and lends it to sheetguard_open_tallied. No other
+ * call changes one: openings by the two requests are not counted.
  *
  * What a caller owes:
  *   - a pointer is never NULL, also where its length is 0, and is aligned for its type;
- *   - it points to as many words or bytes as its length says;
+ *   - it points to as many words or bytes as its length says, where it has none to a whole tally, 64 charges or one word;
  *   - what is lent to be written (a pointer without const) does not overlap anything else that is lent in the same call,
- *     and no other thread uses it during the call.
+ *     as a table and the tally beside it, and no other thread uses it during the call.
  *
  * Users, roles and objects are 0 to 63, sessions 0 to 31, modes 0 to 7, labels 0 to 31. A set of them is a word, with
- * bit i (worth UINT64_C(1) << i) set when i is a member. There is no state beside the table, so different tables may be
- * used by different threads at the same time.
+ * bit i (worth UINT64_C(1) << i) set when i is a member. There is no state beside what is lent, so different tables and
+ * tallies may be used by different threads at the same time.
  */
 #ifndef SHEETGUARD_H
 #define SHEETGUARD_H
@@ -42,6 +45,10 @@ extern "C" {
 /* The number of words of a table. */
 #define SHEETGUARD_WORDS 1352
 
+/* The largest count of a tally, which 32 bits hold, and the largest rate of a statement. */
+#define SHEETGUARD_LARGEST_COUNT 4294967295u
+#define SHEETGUARD_LARGEST_RATE 1000000
+
 /* The answers, but for the four of sheetguard_compare_labels. */
 enum {
     SHEETGUARD_NO = 0,
@@ -55,7 +62,9 @@ enum {
     SHEETGUARD_BAD_LIST_LENGTH = 18, /* a set-up list has not its length */
     SHEETGUARD_BAD_VALUE = 19,       /* a label in a set-up list is over 31 */
     SHEETGUARD_CYCLE = 20,           /* direct juniors lead from a role through another back to it */
-    SHEETGUARD_BAD_PAIR = 21         /* a set's bound is below 2 or above the number of its roles, and not both are 0 */
+    SHEETGUARD_BAD_PAIR = 21,        /* a set's bound is below 2 or above the number of its roles, and not both are 0 */
+    SHEETGUARD_BAD_RATE = 22,        /* the rate of a statement is over 1,000,000 */
+    SHEETGUARD_FULL_COUNT = 23       /* an opening would be YES, and the count that it advances is 4,294,967,295 already */
 };
 
 /* How the first label stands to the second; what dominates means is said at the codes of label requests. */
@@ -200,6 +209,37 @@ uint64_t sheetguard_effective_permissions(const uint64_t *table, size_t words,
 uint64_t sheetguard_authorised_roles(const uint64_t *table, size_t words,
                                      uint64_t user,
                                      uint64_t *roles, size_t n_roles);
+
+/*
+ * A tally: counts[u] is the number of openings of user u that lent it and were answered YES. It begins with every count 0,
+ *
+ *     struct sheetguard_tally tally = {{0}};
+ *
+ * and is lent to each opening as the one before left it.
+ */
+struct sheetguard_tally {
+    uint32_t counts[64];
+};
+
+/*
+ * Table: changed at YES. Tally: changed at YES.
+ * A role opening that is counted. It is answered as sheetguard_role_request answers code SHEETGUARD_OPEN; at YES the count
+ * of the session's user is one higher, also where the session held the object open already.
+ * Answers YES, NO, or refusal 12, 13, 16, or, in place of YES, 23 where that count is SHEETGUARD_LARGEST_COUNT already.
+ */
+uint64_t sheetguard_open_tallied(uint64_t *table, size_t words,
+                                 struct sheetguard_tally *tally,
+                                 uint64_t session, uint64_t object, uint64_t mode);
+
+/*
+ * No table. Tally: only read. charges and *total: written at YES.
+ * A statement of what the openings of a tally cost, at a rate in cents per thousand openings. charges[u] becomes the charge
+ * of user u in cents, counts[u] * rate / 1000 rounded to the nearest cent, halves up: 1,500 openings at 3 are 4.5 cents,
+ * charged 5. *total becomes the sum of the 64 charges as they are rounded.
+ * Answers YES, or refusal 22 where the rate is over SHEETGUARD_LARGEST_RATE.
+ */
+uint64_t sheetguard_statement(const struct sheetguard_tally *tally, uint64_t rate,
+                              uint64_t charges[64], uint64_t *total);
 
 #ifdef __cplusplus
 }

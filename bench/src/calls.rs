@@ -2,6 +2,7 @@
 
 use crate::tables;
 use compare::{Guard, PLAIN};
+use std::cell::RefCell;
 
 /// What is asked of a guard and a table; its answer.
 type Ask = Box<dyn Fn(&Guard, &mut [u64]) -> u64>;
@@ -28,6 +29,20 @@ impl Call {
 
 fn role_ask([code, a, b, c]: [u64; 4]) -> Ask {
     Box::new(move |guard, table| (guard.role_request)(table, code, a, b, c))
+}
+
+/// An opening that lends a tally, which its caller keeps from call to call; the code is that of the opening without one.
+fn tallied_ask([_, session, object, mode]: [u64; 4]) -> Ask {
+    let counts = RefCell::new([0; 64]);
+    Box::new(move |guard, table| (guard.open_tallied)(table, &mut counts.borrow_mut(), session, object, mode))
+}
+
+/// A statement; its answer and the total as one number.
+fn statement_ask(counts: [u32; 64], rate: u64) -> Ask {
+    Box::new(move |guard, _| {
+        let (mut charges, mut total) = ([0; 64], 0);
+        100 * (guard.statement)(&counts, rate, &mut charges, &mut total) + total
+    })
 }
 
 /// A label request; its answer and spent as one number.
@@ -57,6 +72,12 @@ fn role(name: &'static str, code: u64, answer: u64) -> Call {
 fn role_on(table: &[u64], name: &'static str, code: u64, answer: u64) -> Call {
     let request = find(table, code, answer, answer == 1, role_ask);
     Call::new(name, table, role_ask(request))
+}
+
+/// The role opening of an answer that is measured on a table without a tally, with one.
+fn tallied_on(table: &[u64], name: &'static str, answer: u64) -> Call {
+    let request = find(table, 1, answer, answer == 1, role_ask);
+    answered(name, table, tallied_ask(request), answer)
 }
 
 /// A link that is answered no for what users and sessions have, and not for how the two roles stand: the first whose junior is
@@ -101,6 +122,8 @@ fn everyday_roles() -> Vec<Call> {
     vec![
         role("role open, yes", 1, 1),
         role("role open, no", 1, 0),
+        tallied_on(&tables::plant(), "role open with a tally, yes", 1),
+        tallied_on(&tables::plant(), "role open with a tally, no", 0),
         role("role close", 2, 1),
         answered("role start", &tables::plant(), start, 1),
         role("role activate", 5, 1),
@@ -142,6 +165,7 @@ pub fn rows() -> Vec<Call> {
     let label_set_up: Ask = Box::new(move |guard, table| (guard.label_setup)(table, &clearances, &labels));
     let comparison: Ask =
         Box::new(|guard, _| (0..32 * 32).map(|pair| (guard.compare_labels)(pair / 32, pair % 32)).sum());
+    let openings = std::array::from_fn(|user| 1000 * user as u32 + 500);
     let soundness = vec![
         sound("sound: empty table", &tables::empty()),
         sound(IMAGE, &tables::labels()),
@@ -164,6 +188,8 @@ pub fn rows() -> Vec<Call> {
         answered("label set-up", &tables::image(), label_set_up, 1),
         // 32 pairs equal, 238 above, as many below and 516 apart: 238 * 1 + 238 * 2 + 516 * 3
         answered("label comparison, 1,024 pairs", &tables::empty(), comparison, 2262),
+        // user u has 1,000 * u + 500 openings, at 3 charged 3 * u + 2: 3 * 2,016 + 2 * 64, behind answer 1
+        answered("statement", &tables::empty(), statement_ask(openings, 3), 100 + 6176),
         likeness("likeness", tables::plant()),
         likeness("likeness: label image, 16 sessions", tables::labels()),
         likeness("likeness: full role table", tables::full()),
@@ -184,6 +210,7 @@ fn rows_with_sets() -> Vec<Call> {
     vec![
         sound("sound: plant, 32 sets", &table),
         row("role open, 32 sets", 1, 1),
+        tallied_on(&table, "role open with a tally, 32 sets", 1),
         answered("role start, 32 sets", &table, start, 1),
         row("role activate, yes, 32 sets", 5, 1),
         row("role drop, 32 sets", 6, 1),

@@ -15,6 +15,8 @@ const NOTHING: Guard = Guard {
     compare_labels: |_, _| 0,
     effective_permissions: |_, _, _| 0,
     authorised_roles: |_, _, _| 0,
+    open_tallied: |_, _, _, _, _| 0,
+    statement: |_, _, _, _| 0,
 };
 
 /// Makes each call on no guard, on the plain one and on the proved one where it is there, and prints its name and the guard's.

@@ -1,7 +1,7 @@
 //! The speed of the guards side by side, as a table in Markdown: `bench [ROUNDS]`. `bench instructions` is for
 //! `bench/instructions`, which has the instructions of calls counted.
 //!
-//! A row is measured on every guard in turn, and this several times over, so that what else the machine does meets all
+//! All rows are measured on every guard in turn, and this several times over, so that what else the machine does meets all
 //! of them alike; a cell has the minimum and the median. The soundness test is measured through a role request of
 //! code 0, which is refused straight after it.
 
@@ -26,8 +26,9 @@ fn main() -> std::io::Result<()> {
     println!("| row | proved | (b) plain | (a) second | (c) read | proved / (b) | (a) / {measured} |");
     println!("|---|---|---|---|---|---|---|");
     let read = measure::plain_read(rounds);
-    for row in calls::rows() {
-        println!("{}", line(row.name, &guards.measure(&row, rounds), &read.to_string()));
+    let rows = calls::rows();
+    for (row, times) in rows.iter().zip(guards.measure(&rows, rounds)) {
+        println!("{}", line(row.name, &times, &read.to_string()));
     }
     println!("\ntranscripts of a million lines; millions of lines a second, minimum / median time\n");
     println!("| mode | guard | (b) plain | (a) second | `wc -l` | guard / (b) | guard's peak memory |");

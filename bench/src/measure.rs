@@ -1,4 +1,4 @@
-//! Measuring one call on several guards in turn.
+//! Measuring calls on several guards in turn.
 
 use crate::calls::Call;
 use compare::{Guard, PLAIN, REFERENCE, WORDS};
@@ -51,20 +51,38 @@ impl Guards {
         Guards { proved }
     }
 
-    /// The call on each guard in turn, round by round.
-    pub fn measure(&self, call: &Call, rounds: usize) -> Row {
+    /// Each call on each guard in turn, round by round; a row for each call.
+    pub fn measure(&self, calls: &[Call], rounds: usize) -> Vec<Row> {
         let guards = [self.proved.as_ref(), Some(&PLAIN), Some(&REFERENCE)];
-        let mut times = [const { Vec::new() }; 3];
-        let turns = guards.map(|guard| guard.map_or(0, |guard| turns(|count| once(call, guard, count))));
+        let cells = |call| guards.map(|guard| Some(Cell::new(call, guard?)));
+        let mut rows: Vec<[Option<Cell>; 3]> = calls.iter().map(cells).collect();
         for _ in 0..rounds {
-            for ((guard, turns), times) in guards.iter().zip(turns).zip(&mut times) {
-                if let Some(guard) = guard {
-                    times.push(once(call, guard, turns).as_nanos() as f64 / turns as f64);
-                }
-            }
+            rows.iter_mut().flatten().flatten().for_each(Cell::round);
         }
-        let [proved, plain, second] = times.map(|times| (!times.is_empty()).then(|| Times::new(times)));
-        Row { proved, plain, second }
+        let row = |cells: [Option<Cell>; 3]| {
+            let [proved, plain, second] = cells.map(|cell| Some(Times::new(cell?.times)));
+            Row { proved, plain, second }
+        };
+        rows.into_iter().map(row).collect()
+    }
+}
+
+/// A call on a guard, so many turns in a round.
+struct Cell<'a> {
+    call: &'a Call,
+    guard: &'a Guard,
+    turns: u64,
+    times: Vec<f64>,
+}
+
+impl Cell<'_> {
+    fn new<'a>(call: &'a Call, guard: &'a Guard) -> Cell<'a> {
+        Cell { call, guard, turns: turns(|count| once(call, guard, count)), times: Vec::new() }
+    }
+
+    /// Measures a round.
+    fn round(&mut self) {
+        self.times.push(once(self.call, self.guard, self.turns).as_nanos() as f64 / self.turns as f64);
     }
 }
 

@@ -1,12 +1,13 @@
 //! The sheet guard in plain optimised Rust, without proofs: what the proved guard's speed is measured against.
 //!
 //! Sets are words, and where few members are likely only these are walked. The functions of this page take lent words and answer
-//! with the scope's numbers: 1 yes, 0 no, 12 to 21 a refusal. The comparison of two labels alone takes no words, and
+//! with the scope's numbers: 1 yes, 0 no, 12 to 23 a refusal. The comparison of two labels alone takes no words, and
 //! answers with a number of its own or a refusal.
 
 mod labels;
 mod roles;
 mod table;
+mod tally;
 pub mod transcript;
 
 use table::{is_sound, Table, HOLDS, MASKS, STATIC};
@@ -123,4 +124,19 @@ pub fn authorised_roles(words: &[u64], user: u64, roles: &mut [u64]) -> u64 {
         roles[0] = table::authorised(table, user as usize);
         Ok(YES)
     }))
+}
+
+/// A role opening on a lent table with a lent tally, a count for each user.
+pub fn open_tallied(words: &mut [u64], counts: &mut [u32; 64], session: u64, object: u64, mode: u64) -> u64 {
+    number(lent(words).and_then(|table| {
+        if !is_sound(table) {
+            return Err(13);
+        }
+        tally::open_counted(table, counts, session, object, mode)
+    }))
+}
+
+/// Writes the charge of each user at a rate in cents per thousand openings, and the sum of the charges.
+pub fn statement(counts: &[u32; 64], rate: u64, charges: &mut [u64; 64], total: &mut u64) -> u64 {
+    number(tally::state(counts, rate, charges, total))
 }

@@ -48,8 +48,14 @@ fn add(t: &mut Table, at: usize, member: usize) -> bool {
     true
 }
 
+/// Whether a pair is effective for a session.
+#[inline]
+pub fn may_open(t: &Table, s: usize, o: usize, x: usize) -> bool {
+    has(t[MASKS + 8 * s + x], o)
+}
+
 pub fn open(t: &mut Table, s: usize, o: usize, x: usize) -> bool {
-    has(t[MASKS + 8 * s + x], o) && add(t, HOLDS + 8 * s + x, o)
+    may_open(t, s, o, x) && add(t, HOLDS + 8 * s + x, o)
 }
 
 pub fn close(t: &mut Table, s: usize, o: usize, x: usize) -> bool {

@@ -4,7 +4,7 @@ ghost use Rattle.requests.specs.Request;
 ghost use Rattle.requests.specs.Request.{ask};
 ghost use Rattle.requests.specs.Answer.{refusalNumber, numberOf};
 
-// Why a request or a set-up is refused.
+// Why a request, a set-up or a statement is refused.
 pub enum Refusal {
     WrongLength,
     Unsound,
@@ -16,6 +16,8 @@ pub enum Refusal {
     BadValue,
     Cycle,
     BadPair,
+    BadRate,
+    FullCount,
 }
 
 // What a request comes to.
@@ -40,6 +42,8 @@ pub fn refusal_number(r: Refusal) -> u64
         Refusal::BadValue => 19,
         Refusal::Cycle => 20,
         Refusal::BadPair => 21,
+        Refusal::BadRate => 22,
+        Refusal::FullCount => 23,
     }
 }
 

@@ -34,3 +34,16 @@ pub fn request(t: &mut [u64], code: u64, a: u64, b: u64, c: u64) -> Answer
     }
     serve(t, code, a, b, c)
 }
+
+// What an opening would be answered; the table, of any length and contents, is only read.
+pub fn opening(t: &[u64], s: u64, o: u64, x: u64) -> Answer
+    ensures { λ r. ⌜ numberOf r ≡ roleStep (now (t .entry)) (ask 1 s o x) .answer ⌝ }
+{
+    if t.len() != WORDS {
+        return Answer::Refused(Refusal::WrongLength);
+    }
+    match sound::is_sound(t) {
+        true => sessions::opening(t, s, o, x),
+        false => Answer::Refused(Refusal::Unsound),
+    }
+}

@@ -11,20 +11,29 @@ ghost use Prim.Native.Nat.{_+_, _≤_};
 ghost use lib.ListN.{length};
 ghost use Rattle.bits.specs.Words.{tabulate};
 ghost use Rattle.table.specs.Answers.{overlay};
+ghost use Rattle.table.specs.Reading.{state};
 ghost use Rattle.table.specs.Table.{tableLength};
 ghost use Rattle.requests.specs.Request.{ask};
 ghost use Rattle.requests.specs.Answer.{numberOf};
 ghost use Rattle.rbac.specs.Roles.{opens, closes, starts, ends, activates, drops, decode};
-ghost use Rattle.rbac.specs.Guard.{soundStep};
+ghost use Rattle.rbac.specs.Guard.{allowedSound, soundStep};
 ghost use Rattle.rbac.specs.Served.{Fit, Served};
 ghost use Rattle.sessions.specs.Sessions.{sessionStep};
 
-// Session s opens object o in mode x, where its mask has it.
+// Whether session s may open object o in mode x: its mask has it.
+fn may_open(t: &[u64], s: usize, o: usize, x: usize) -> bool
+    requires { ⌜ Fit (now t) (opens s o x) ⌝ }
+    ensures { λ r. ⌜ r ≡ allowedSound (state (now (t .entry))) (opens s o x) ⌝ }
+{
+    bits::has(t[MASKS + 8 * s + x], o)
+}
+
+// Session s opens object o in mode x, where it may.
 fn open(t: &mut [u64], s: usize, o: usize, x: usize) -> bool
     requires { ⌜ Fit (now t) (opens s o x) ⌝ }
     ensures { λ r. ⌜ Served (now (t .entry)) (now (t .exit)) r (opens s o x) ⌝ }
 {
-    if !bits::has(t[MASKS + 8 * s + x], o) {
+    if !may_open(t, s, o, x) {
         return false;
     }
     let at = HOLDS + 8 * s + x;
@@ -176,4 +185,20 @@ pub fn serve(t: &mut [u64], code: u64, a: u64, b: u64, c: u64) -> Answer
         6 => serve_code(t, 6, a, b, c),
         _ => Answer::Refused(Refusal::BadCode),
     }
+}
+
+// What an opening would be answered on a table that is known to be sound.
+pub fn opening(t: &[u64], s: u64, o: u64, x: u64) -> Answer
+    ensures { λ r. ⌜ numberOf r ≡ soundStep (now (t .entry)) (ask 1 s o x) .answer ⌝ }
+{
+    if t.len() != WORDS {
+        return Answer::Refused(Refusal::WrongLength);
+    }
+    if !rbac::in_range(1, s, o, x) {
+        return Answer::Refused(Refusal::BadArgument);
+    }
+    if may_open(t, s as usize, o as usize, x as usize) {
+        return Answer::Yes;
+    }
+    Answer::No
 }

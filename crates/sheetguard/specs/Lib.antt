@@ -1,3 +1,4 @@
 -- The crate's definitions, in reading order.
 pub mod Reading
 pub mod Comparing
+pub mod Stating

@@ -4,6 +4,7 @@ use requests::Answer;
 use requests::Refusal;
 use table::layout::MASKS;
 use table::layout::WORDS;
+use tally::Tally;
 ghost use mathlib.Core.Path.{_≡_};
 ghost use Prim.Native.Nat.{_<_};
 ghost use lib.Dec.{eqb, ltb};
@@ -18,6 +19,9 @@ ghost use Rattle.setup.specs.SetUp.{roleSetUp};
 ghost use Rattle.alike.specs.Likeness.{likeness};
 ghost use Rattle.image.specs.SetUp.{labelSetUp};
 ghost use Rattle.labels.specs.Guard.{labelStep};
+ghost use Rattle.tally.specs.Tally.{openTallied};
+ghost use Rattle.tally.specs.Statement.{statementOf};
+ghost use Rattle.sheetguard.specs.Stating.{chargesLeft, totalLeft};
 ghost use Rattle.sheetguard.specs.Reading.{readable, readPermissions, readRoles};
 ghost use Rattle.sheetguard.specs.Comparing.{compareLabels};
 
@@ -176,4 +180,45 @@ pub extern "C" fn sheetguard_authorised_roles(table: &[u64], user: u64, roles: &
     }
     table::overlay(roles, 0, &[table::authorised_roles(table, user as usize)]);
     n
+}
+
+// An opening that lends a tally: a yes advances the count of the session's user.
+#[no_mangle]
+pub extern "C" fn sheetguard_open_tallied(
+    table: &mut [u64],
+    tally: &mut Tally,
+    session: u64,
+    object: u64,
+    mode: u64,
+) -> u64
+    ensures { λ n. ⌜ (n ≡ openTallied (now (table .entry)) (now (tally .entry) .counts) session object mode .answer)
+        × (now (tally .exit) .counts ≡ openTallied (now (table .entry)) (now (tally .entry) .counts) session object mode .counts)
+        × (now (table .exit) ≡ openTallied (now (table .entry)) (now (tally .entry) .counts) session object mode .table) ⌝ }
+{
+    let counts = tally.counts;
+    let next = tally::open(table, counts, session, object, mode);
+    tally.counts = next.counts;
+    next.answer
+}
+
+// Each user's charge and their total, at a rate in cents per thousand openings. (A tally in C is its 64 counts.)
+#[no_mangle]
+pub extern "C" fn sheetguard_statement(
+    counts: &[u32; 64],
+    rate: u64,
+    charges: &mut [u64; 64],
+    total: &mut u64,
+) -> u64
+    ensures answer { λ n. ⌜ n ≡ statementOf (now (counts .entry)) rate .answer ⌝ }
+    ensures charges { λ n. ⌜ now (charges .exit) ≡ chargesLeft (now (counts .entry)) rate (now (charges .entry)) ⌝ }
+    ensures total { λ n. ⌜ now (total .exit) ≡ totalLeft (now (counts .entry)) rate (now (total .entry)) ⌝ }
+{
+    let statement = tally::statement(*counts, rate);
+    if statement.answer != 1 {
+        return statement.answer;
+    }
+    let charged = statement.charges;
+    *charges = charged;
+    *total = statement.total;
+    statement.answer
 }

@@ -1,8 +1,8 @@
-//! A case: steps on one table.
+//! A case: steps on one table and one tally.
 
 use crate::words::Layer;
 
-/// What is done to the table, or asked of it.
+/// What is done to the table or the tally, or asked of them.
 #[derive(Clone, Debug, PartialEq, Eq)]
 pub enum Step {
     RoleSetup {
@@ -17,6 +17,10 @@ pub enum Step {
     Role([u64; 4]),
     /// A label request: code and three arguments.
     Label([u64; 4]),
+    /// An opening that lends the tally: session, object and mode.
+    Tallied([u64; 3]),
+    /// The statement of the tally at a rate.
+    Statement(u64),
     /// The effective permissions of a session.
     Permissions(u64),
     /// The authorised roles of a user.
@@ -27,6 +31,8 @@ pub enum Step {
     Put(usize, u64),
     /// Turns one bit of a word of the table, where it is so long.
     Flip(usize, u64),
+    /// Writes the count of a user, where there is one of this number.
+    Count(u64, u32),
     /// Cuts the table to so many words, or fills it up with 0.
     Length(usize),
     /// Keeps a copy of the table.
@@ -45,6 +51,6 @@ impl Step {
     }
 }
 
-/// Steps on a table whose words are 0, the kept copy like it.
+/// Steps on a table whose words are 0, the kept copy like it, and a tally whose counts are 0.
 #[derive(Clone, Debug, Default, PartialEq, Eq)]
 pub struct Case(pub Vec<Step>);

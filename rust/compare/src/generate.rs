@@ -3,6 +3,7 @@
 mod damage;
 mod fitted;
 mod setups;
+mod tally;
 mod world;
 
 use crate::case::{Case, Step};
@@ -12,7 +13,8 @@ use damage::{damage, links_put, mask_put, pair_put, wrong_length, SECTIONS};
 use fitted::fitted;
 use reference::WORDS;
 use setups::{label_setup, odd_label_setup, odd_role_setup, role_setup};
-use world::{any_call, reading, World, LABEL_GROWTH, LINK_WEIGHTS, ROLE_GROWTH};
+use tally::{count_put, statement};
+use world::{any_call, reading, tallied_opening, World, LABEL_GROWTH, LINK_WEIGHTS, ROLE_GROWTH};
 
 impl Layer {
     /// A set-up that is accepted, and requests that bring the table into use.
@@ -78,10 +80,11 @@ fn in_rounds(random: &mut Random, disturb: impl Fn(&mut Random, &World, Layer) -
 /// A table in use that is damaged, called and restored, several times over. Role requests meet label tables too.
 pub fn damaged(random: &mut Random) -> Case {
     in_rounds(random, |random, world, layer| {
-        let damages = match random.below(14) {
+        let damages = match random.below(18) {
             0..=2 => pair_put(random, world),
-            3..=6 => links_put(random, world, layer),
-            7..=9 => mask_put(random, world),
+            3..=7 => links_put(random, world, layer),
+            8..=11 => mask_put(random, world),
+            12 | 13 => vec![wrong_length(random)],
             _ => list(random, 3, |random| match random.below(6) {
                 0 => wrong_length(random),
                 1 => any_call(random, world),
@@ -118,6 +121,26 @@ pub fn likeness(random: &mut Random) -> Case {
             }),
         };
         [changes, vec![Step::Alike, Step::Restore, Step::Alike]].concat()
+    })
+}
+
+/// Openings that lend a tally, with counts put, statements and requests between, then some on a table that is often damaged.
+pub fn tallies(random: &mut Random) -> Case {
+    in_rounds(random, |random, world, layer| {
+        let calls = list(random, 24, |random| match random.below(16) {
+            0..=2 => count_put(random, world),
+            3 | 4 => statement(random),
+            5..=7 => layer.any_request(random, world),
+            _ => tallied_opening(random, world),
+        });
+        let damages = match random.below(8) {
+            0 => vec![wrong_length(random)],
+            1 => vec![damage(random)],
+            2 => mask_put(random, world),
+            _ => Vec::new(),
+        };
+        let openings = list(random, 3, |random| tallied_opening(random, world));
+        [calls, damages, openings, vec![Step::Restore]].concat()
     })
 }
 

@@ -11,6 +11,8 @@ pub struct Guard {
     pub compare_labels: fn(first: u64, second: u64) -> u64,
     pub effective_permissions: fn(table: &[u64], session: u64, masks: &mut [u64]) -> u64,
     pub authorised_roles: fn(table: &[u64], user: u64, roles: &mut [u64]) -> u64,
+    pub open_tallied: fn(table: &mut [u64], counts: &mut [u32; 64], session: u64, object: u64, mode: u64) -> u64,
+    pub statement: fn(counts: &[u32; 64], rate: u64, charges: &mut [u64; 64], total: &mut u64) -> u64,
 }
 
 /// The guard of a module that has these functions.
@@ -26,6 +28,8 @@ macro_rules! guard_of {
             compare_labels: $module::compare_labels,
             effective_permissions: $module::effective_permissions,
             authorised_roles: $module::authorised_roles,
+            open_tallied: $module::open_tallied,
+            statement: $module::statement,
         }
     };
 }

@@ -1,9 +1,10 @@
 //! Comparison of guards with the second implementation.
 //!
-//! A [`Case`] is a list of steps: set-ups, requests by code and numbers, damage to the table, likeness, readings. It is
-//! carried out on the second implementation and on every other guard there is, and after each step the answers and
-//! all words are held to be the same. A case that tells two guards apart is made shorter and printed in a form that
-//! `compare replay` reads; where it holds no more than a transcript can say, that form is a transcript.
+//! A [`Case`] is a list of steps: set-ups, requests by code and numbers, openings that lend a tally, statements, damage to the
+//! table, likeness, readings. It is carried out on the second implementation and on every other guard there is, and after
+//! each step the answers, all words and all counts are held to be the same. A case that tells two guards apart is made
+//! shorter and printed in a form that `compare replay` reads; where it holds no more than a transcript can say, that form is
+//! a transcript.
 
 mod case;
 mod generate;
@@ -17,7 +18,7 @@ mod transcripts;
 mod words;
 
 pub use case::{Case, Step};
-pub use generate::{damage_everywhere, damaged, likeness, links, requests, set_ups, worded_requests};
+pub use generate::{damage_everywhere, damaged, likeness, links, requests, set_ups, tallies, worded_requests};
 #[cfg(feature = "proved")]
 pub use guard::PROVED;
 pub use guard::{guards, Guard, GUARDS, PLAIN, REFERENCE};

@@ -6,7 +6,7 @@
 
 use compare::{
     check, check_transcript, compare, damaged, difference, likeness, links, random_transcript, readers, requests,
-    set_ups, Case, Layer, Random, Reached, Reader, GUARDS,
+    set_ups, tallies, Case, Layer, Random, Reached, Reader, GUARDS,
 };
 use std::process::ExitCode;
 use std::time::{Duration, Instant};
@@ -70,13 +70,14 @@ fn long(seconds: &str, seed: &str) -> Result<String, String> {
 type Make = fn(&mut Random) -> Case;
 
 /// The kinds of cases.
-const KINDS: [(&str, Make); 6] = [
+const KINDS: [(&str, Make); 7] = [
     ("role requests", |random| requests(random, Layer::Roles)),
     ("links", links),
     ("label requests", |random| requests(random, Layer::Labels)),
     ("damaged tables", damaged),
     ("set-ups", set_ups),
     ("likeness", likeness),
+    ("tallies", tallies),
 ];
 
 /// The kinds whose case of a round, which its seed makes, tells two guards apart.

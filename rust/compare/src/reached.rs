@@ -20,12 +20,14 @@ impl Reached {
             Step::LabelSetup { .. } => "label set-up",
             Step::Permissions(_) => "permissions",
             Step::Authorised(_) => "authorised",
+            Step::Tallied(_) => "tallied open",
+            Step::Statement(_) => "statement",
             Step::Alike => "alike",
             Step::Role([code, ..]) => return self.count(request_answer(Layer::Roles, *code, [answers[0], 0])),
             Step::Label([code, ..]) => {
                 return self.count(request_answer(Layer::Labels, *code, [answers[0], answers[1]]))
             }
-            Step::Put(..) | Step::Flip(..) | Step::Length(_) | Step::Keep | Step::Restore => return,
+            Step::Put(..) | Step::Flip(..) | Step::Count(..) | Step::Length(_) | Step::Keep | Step::Restore => return,
         };
         answers.iter().for_each(|answer| self.count(format!("{call}: {answer}")));
     }
@@ -73,7 +75,7 @@ fn line_answer(mode: Option<Layer>, name: &str, fields: Option<usize>, [answer, 
     format!("{mode}: {name} {fields}: {answer} {spent}")
 }
 
-/// Every answer and refusal of every call on a table.
+/// Every answer and refusal of every call on a table or a tally.
 pub fn every_call() -> Vec<String> {
     let mut all = Vec::new();
     for (call, answers) in OTHER_CALLS {

@@ -9,10 +9,11 @@ use reference::WORDS;
 /// What one guard has made of the steps so far.
 pub struct Run {
     pub table: Vec<u64>,
+    pub tally: [u32; 64],
     kept: Vec<u64>,
 }
 
-/// What a step answered: the number, spent, and the words that a reading wrote.
+/// What a step answered: the number, spent, and the words that a reading or a statement wrote.
 #[derive(Debug, PartialEq, Eq)]
 pub struct Reply {
     pub answers: Vec<u64>,
@@ -25,12 +26,12 @@ impl Reply {
     }
 }
 
-/// Lent words that a reading has to overwrite, or to leave where it is refused.
+/// Lent words that a reading or a statement has to overwrite, or to leave where it is refused.
 pub const LENT: u64 = 0x5555_aaaa_5555_aaaa;
 
 impl Default for Run {
     fn default() -> Run {
-        Run { table: vec![0; WORDS], kept: vec![0; WORDS] }
+        Run { table: vec![0; WORDS], tally: [0; 64], kept: vec![0; WORDS] }
     }
 }
 
@@ -47,6 +48,10 @@ impl Run {
                 let answer = (guard.label_request)(table, *code, *a, *b, *c, &mut spent);
                 Reply { answers: vec![answer, spent], words: Vec::new() }
             }
+            Step::Tallied([session, object, mode]) => {
+                Reply::number((guard.open_tallied)(table, &mut self.tally, *session, *object, *mode))
+            }
+            Step::Statement(rate) => self.stated(guard, *rate),
             Step::Permissions(session) => {
                 let mut words = vec![LENT; 8];
                 Reply { answers: vec![(guard.effective_permissions)(table, *session, &mut words)], words }
@@ -59,11 +64,18 @@ impl Run {
                 let (one, other) = ((guard.alike)(&self.kept, table), (guard.alike)(table, &self.kept));
                 Reply { answers: vec![one, other], words: Vec::new() }
             }
-            Step::Put(..) | Step::Flip(..) | Step::Length(_) | Step::Keep | Step::Restore => {
+            Step::Put(..) | Step::Flip(..) | Step::Count(..) | Step::Length(_) | Step::Keep | Step::Restore => {
                 self.handle(step);
                 return None;
             }
         })
+    }
+
+    /// The statement of the tally, its total behind the charges.
+    fn stated(&self, guard: &Guard, rate: u64) -> Reply {
+        let (mut charges, mut total) = ([LENT; 64], LENT);
+        let answer = (guard.statement)(&self.tally, rate, &mut charges, &mut total);
+        Reply { answers: vec![answer], words: [&charges[..], &[total]].concat() }
     }
 
     /// The steps that no guard takes part in.
@@ -71,6 +83,9 @@ impl Run {
         match step {
             Step::Put(at, word) => self.table.get_mut(*at).into_iter().for_each(|place| *place = *word),
             Step::Flip(at, bit) => self.table.get_mut(*at).into_iter().for_each(|place| *place ^= 1 << (bit % 64)),
+            Step::Count(user, count) => {
+                self.tally.get_mut(*user as usize).into_iter().for_each(|place| *place = *count)
+            }
             Step::Length(words) => self.table.resize(*words, 0),
             Step::Keep => self.kept.clone_from(&self.table),
             Step::Restore => self.table.clone_from(&self.kept),
@@ -108,6 +123,10 @@ pub fn compare(case: &Case, guards: &[Guard], reached: &mut Reached) -> Result<(
                 let places = (0..expected.table.len()).filter(|i| run.table.get(*i) != expected.table.get(*i));
                 let places: Vec<usize> = places.take(8).collect();
                 return Err(format!("step {}: words {places:?} differ in the {}'s table", at + 1, guard.name));
+            }
+            if run.tally != expected.tally {
+                let places: Vec<usize> = (0..64).filter(|user| run.tally[*user] != expected.tally[*user]).collect();
+                return Err(format!("step {}: counts {places:?} differ in the {}'s tally", at + 1, guard.name));
             }
         }
     }

@@ -94,13 +94,15 @@ const LABELS: [Word; 8] = [
     request(5, "reclear", &[User, Label], &[[0, 3], [1, 0], [1, 2]]),
 ];
 
-/// The calls on a table that are no requests, and every answer of each.
-pub const OTHER_CALLS: [(&str, &[u64]); 5] = [
+/// The calls on a table or a tally that are no requests, and every answer of each.
+pub const OTHER_CALLS: [(&str, &[u64]); 7] = [
     ("role set-up", &[1, 12, 18, 20]),
     ("label set-up", &[1, 12, 18, 19]),
     ("alike", &[0, 1, 12, 13]),
     ("permissions", &[1, 12, 13, 16]),
     ("authorised", &[1, 12, 13, 16]),
+    ("tallied open", &[0, 1, 12, 13, 16, 23]),
+    ("statement", &[1, 22]),
 ];
 
 impl Layer {

@@ -9,6 +9,7 @@ mod masks;
 mod printed;
 mod seniority;
 mod separation;
+mod tally;
 mod transcripts;
 
 const _: () = assert!(!reference::WRONG, "tests are built without wrong turns");

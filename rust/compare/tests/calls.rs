@@ -2,8 +2,8 @@
 
 use crate::common::{every_kind, Counts};
 use compare::{
-    check, damage_everywhere, damaged, every_call, likeness, links, requests, set_ups, watch, Case, Guard, Layer,
-    Random, Reached, Step, GUARDS, REFERENCE, WORDS,
+    check, damage_everywhere, damaged, every_call, likeness, links, requests, set_ups, tallies, watch, Case, Guard,
+    Layer, Random, Reached, Step, GUARDS, REFERENCE, WORDS,
 };
 
 /// Compares each case, and fails with the first that tells two guards apart.
@@ -32,7 +32,15 @@ fn require(reached: &Reached, all: &[String]) {
 fn every_call_and_every_answer() {
     let roles = || some(1, 350, |random| requests(random, Layer::Roles));
     let labels = || some(2, 200, |random| requests(random, Layer::Labels));
-    let others = || [some(3, 400, damaged), some(4, 400, set_ups), some(5, 100, likeness), some(8, 150, links)];
+    let others = || {
+        [
+            some(3, 400, damaged),
+            some(4, 400, set_ups),
+            some(5, 100, likeness),
+            some(8, 150, links),
+            some(18, 100, tallies),
+        ]
+    };
     let mut reached = Reached::default();
     std::thread::scope(|scope| {
         let (roles, labels) = (scope.spawn(roles), scope.spawn(labels));
@@ -86,7 +94,7 @@ fn every_kind_of_start() {
 /// Every word of a table of a layer damaged: refusals 13 and 14 are reached.
 fn damage_every_word(seed: u64, layer: Layer) {
     let reached = compare_all(damage_everywhere(&mut Random::new(seed), layer).into_iter());
-    require(&reached, &["role 1: 13", "label 1: 13 0", "label 1: 14 0"].map(String::from));
+    require(&reached, &["role 1: 13", "label 1: 13 0", "label 1: 14 0", "tallied open: 13"].map(String::from));
 }
 
 #[test]

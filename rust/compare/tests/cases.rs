@@ -249,13 +249,14 @@ fn case_j_code_15_and_set_16() {
 
 /// Every call that takes a table, with its answers (and spent) on as many words as a table has and on another number. Likeness
 /// answers for the table as the second and as the first.
-fn calls() -> [(Step, Vec<u64>, Vec<u64>); 7] {
+fn calls() -> [(Step, Vec<u64>, Vec<u64>); 8] {
     [
         (Step::Role([2, 0, 0, 0]), vec![1], vec![12]),
         (Step::Label([2, 0, 0, 0]), vec![1, 1], vec![12, 0]),
         (Step::Alike, vec![1, 1], vec![12, 12]),
         (Step::Permissions(0), vec![1], vec![12]),
         (Step::Authorised(0), vec![1], vec![12]),
+        (Step::Tallied([3, 0, 0]), vec![1], vec![12]),
         (Step::RoleSetup { juniors: vec![0; 64], permissions: vec![0; 8] }, vec![1], vec![12]),
         (Step::LabelSetup { clearances: vec![0; 64], labels: vec![0; 64] }, vec![1], vec![12]),
     ]
@@ -269,11 +270,11 @@ fn case_j_other_lengths() {
             run.step(guard, &Step::Keep);
             run.step(guard, &Step::Length(words));
             for (step, whole, other) in calls() {
-                let before = run.table.clone();
+                let (table, tally) = (run.table.clone(), run.tally);
                 let reply = run.step(guard, &step).expect("a guard takes part");
                 let expected = if words == WORDS { whole } else { other };
                 assert_eq!(reply.answers, expected, "{step:?} on {words} words by the {}", guard.name);
-                let kept = run.table == before && reply.words.iter().all(|word| *word == LENT);
+                let kept = run.table == table && run.tally == tally && reply.words.iter().all(|word| *word == LENT);
                 assert!(kept || words == WORDS, "{step:?} on {words} words is refused and writes");
             }
         }

@@ -23,15 +23,16 @@ pub fn after(guard: &Guard, text: &str) -> Run {
     run
 }
 
-/// Answer and spent of each call of a case. Whatever is not answered yes leaves every word.
+/// Answer and spent of each call of a case. Whatever is not answered yes leaves every word and every count.
 pub fn play(case: &Case, guard: &Guard) -> Vec<[u64; 2]> {
     let mut run = Run::default();
     let mut rows = Vec::new();
     for step in &case.0 {
-        let before = run.table.clone();
+        let (table, tally) = (run.table.clone(), run.tally);
         let Some(reply) = run.step(guard, step) else { continue };
         let answer = reply.answers[0];
-        assert!(answer == 1 || run.table == before, "{step:?} changes the table of the {}", guard.name);
+        let is_left = run.table == table && run.tally == tally;
+        assert!(answer == 1 || is_left, "{step:?} changes what is lent to the {}", guard.name);
         let spent = match step {
             Step::Role(_) => u64::from(answer < 2),
             _ => reply.answers.get(1).copied().unwrap_or(0),
@@ -101,7 +102,7 @@ pub fn close(run: &mut Run, guard: &Guard, answers: [u64; 2]) {
 }
 
 /// Every call that tests the table, with its answers (and spent) where the table is sound and session 5 is idle.
-fn calls(label_answers: [u64; 2]) -> [(Step, Vec<u64>); 12] {
+fn calls(label_answers: [u64; 2]) -> [(Step, Vec<u64>); 13] {
     [
         (Step::Role([0, 0, 0, 0]), vec![15]),
         (Step::Role([1, 32, 0, 0]), vec![16]),
@@ -111,6 +112,7 @@ fn calls(label_answers: [u64; 2]) -> [(Step, Vec<u64>); 12] {
         (Step::Role([13, 4, 4, 0]), vec![0]),
         (Step::Role([14, 4, 4, 0]), vec![0]),
         (Step::Label([2, 5, 0, 0]), label_answers.to_vec()),
+        (Step::Tallied([5, 0, 0]), vec![0]),
         (Step::Alike, vec![1, 1]),
         (Step::Permissions(0), vec![1]),
         (Step::Permissions(5), vec![1]),
@@ -121,14 +123,14 @@ fn calls(label_answers: [u64; 2]) -> [(Step, Vec<u64>); 12] {
 /// Holds every call to refusal 13, which leaves all words, or where the table is sound to other answers.
 pub fn judge(run: &mut Run, guard: &Guard, label_answers: [u64; 2], is_sound: bool) {
     run.step(guard, &Step::Keep);
-    let before = run.table.clone();
+    let (table, tally) = (run.table.clone(), run.tally);
     for (step, if_sound) in calls(label_answers) {
         let reply = run.step(guard, &step).expect("a guard takes part");
         let refused = if matches!(step, Step::Alike) { vec![13, 13] } else { vec![13, 0] };
         let expected = if is_sound { &if_sound[..] } else { &refused[..if_sound.len()] };
         assert_eq!(reply.answers, expected, "{step:?} by the {}", guard.name);
         assert!(is_sound || reply.words.iter().all(|word| *word == LENT), "{step:?} by the {} writes", guard.name);
-        assert!(run.table == before, "{step:?} by the {} changes the table", guard.name);
+        assert!(run.table == table && run.tally == tally, "{step:?} by the {} changes what is lent", guard.name);
     }
 }
 

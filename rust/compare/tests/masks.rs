@@ -267,6 +267,7 @@ fn kind_of_fault(table: &[u64], step: &Step) -> Option<[&'static str; 2]> {
     let call = match step {
         Step::Role(_) => "13, role request",
         Step::Label(_) => "13, label request",
+        Step::Tallied(_) => "13, tallied opening",
         Step::Alike => "13, likeness",
         Step::Permissions(_) => "13, permissions",
         Step::Authorised(_) => "13, authorised roles",
@@ -299,5 +300,5 @@ fn count(case: &Case, counts: &mut Counts) {
 #[test]
 fn every_kind_of_change_and_fault() {
     let cases = |random: &mut Random| vec![requests(random, Layer::Roles), links(random), damaged(random)];
-    every_kind([27, 20], 14, 500, cases, count);
+    every_kind([28, 20], 14, 500, cases, count);
 }

@@ -1,6 +1,6 @@
 //! A case that fails is made shorter and printed: what is left still fails, and what is printed reads as the same case.
 
-use compare::{damaged, requests, set_ups, shrink, Case, Layer, Random};
+use compare::{damaged, requests, set_ups, shrink, tallies, Case, Layer, Random};
 
 #[test]
 fn what_fails_is_kept() {
@@ -14,7 +14,7 @@ fn a_printed_case_reads_the_same() {
     let mut random = Random::new(5);
     for _ in 0..50 {
         let lists = Layer::ALL.map(|layer| requests(&mut random, layer));
-        for case in lists.into_iter().chain([damaged(&mut random), set_ups(&mut random)]) {
+        for case in lists.into_iter().chain([damaged(&mut random), set_ups(&mut random), tallies(&mut random)]) {
             assert_eq!(case.to_string().parse::<Case>(), Ok(case));
         }
     }

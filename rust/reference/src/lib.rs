@@ -4,7 +4,7 @@
 //! ([`State`]), a label table further into a Bell-LaPadula machine ([`Machine`]), the request is carried out there by
 //! the words of the scope, and the table is written anew. Nothing here is fast, and no bit is ever masked.
 //!
-//! The functions of this page take lent words and answer with the scope's numbers: 1 yes, 0 no, 12 to 21 a refusal. The
+//! The functions of this page take lent words and answer with the scope's numbers: 1 yes, 0 no, 12 to 23 a refusal. The
 //! comparison of two labels alone takes no words, and answers with a number of its own or a refusal.
 
 mod labels;
@@ -15,6 +15,7 @@ mod separation;
 mod setup;
 mod state;
 mod table;
+mod tally;
 pub mod transcript;
 mod turns;
 #[cfg(feature = "wrong-turn")]
@@ -25,6 +26,9 @@ pub use separation::Separation;
 pub use state::State;
 pub use table::WORDS;
 pub use turns::{TURNS, WRONG};
+
+use tally::Tally;
+use turns::turn;
 
 /// Yes or no, or the number of a refusal.
 pub type Answer = Result<bool, u64>;
@@ -117,6 +121,28 @@ pub fn authorised_roles(table: &[u64], user: u64, roles: &mut [u64]) -> u64 {
             table::add(roles, 0, role);
         }
         Ok(true)
+    }))
+}
+
+/// A role opening on a lent table with a lent tally, a count for each user.
+pub fn open_tallied(table: &mut [u64], counts: &mut [u32; 64], session: u64, object: u64, mode: u64) -> u64 {
+    number(table::read_sound(table).and_then(|mut state| {
+        let mut tally = Tally::read(counts);
+        let answer = state.open_tallied(&mut tally, [session, object, mode]);
+        table::write(&state, table);
+        tally.write(counts);
+        answer
+    }))
+}
+
+/// Writes the charge of each user at a rate in cents per thousand openings, and the sum of the charges.
+pub fn statement(counts: &[u32; 64], rate: u64, charges: &mut [u64; 64], total: &mut u64) -> u64 {
+    let stated = Tally::read(counts).statement(rate);
+    turn!(bad_rate_clears, (), (*charges, *total) = ([0; 64], 0));
+    number(stated.map(|statement| {
+        statement.charges.iter().for_each(|(u, charge)| charges[*u as usize] = *charge);
+        *total = statement.total;
+        true
     }))
 }
 

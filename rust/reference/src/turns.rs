@@ -1,6 +1,6 @@
 //! Wrong turns that the scope warns of or that a start with roles, the standing of two labels, separation of duties, a change of
-//! seniority, kept masks or likeness invite, so that the comparison can be seen to catch them. The feature `wrong-turn` builds all
-//! of them in, and a run takes the one that the environment variable `WRONG_TURN` names.
+//! seniority, kept masks, likeness or a tally invite, so that the comparison can be seen to catch them. The feature `wrong-turn`
+//! builds all of them in, and a run takes the one that the environment variable `WRONG_TURN` names.
 
 /// Whether the wrong turns are built in. No test is built then; `rust/wrong-turns` counts what the comparison finds.
 pub const WRONG: bool = cfg!(feature = "wrong-turn");
@@ -173,4 +173,32 @@ turns! {
     likeness_without_users,
     /// Likeness that asks for the same user of each session too.
     likeness_by_owner,
+    /// An opening counted for the user after the session's.
+    count_next_user,
+    /// An opening counted by the number of its session.
+    count_by_session,
+    /// An opening already held not counted.
+    held_not_counted,
+    /// An opening answered no that counts.
+    no_counted,
+    /// A tally that is left as it was.
+    tally_left,
+    /// A full count looked at before the answer: a no and a bad argument become 23.
+    full_before_answer,
+    /// A full count of any user taken for that of the session's.
+    full_of_anyone,
+    /// An opening already held answered yes at a full count.
+    full_if_held_yes,
+    /// An opening that is refused for a full count and made.
+    full_opens,
+    /// A count taken for full that can be advanced once more.
+    full_one_early,
+    /// The largest rate refused.
+    rate_one_early,
+    /// Half a cent rounded down.
+    halves_down,
+    /// A total that is rounded once, from the sum of the counts.
+    total_rounded_once,
+    /// A refused rate that leaves 0 for the charges and the total.
+    bad_rate_clears,
 }

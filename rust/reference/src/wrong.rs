@@ -4,6 +4,7 @@ use crate::labels::Machine;
 use crate::requests::Request;
 use crate::separation::Separation;
 use crate::state::{seconds, Mode, Object, Role, Session, State, User, SESSIONS};
+use crate::tally::Tally;
 use crate::turns::taken;
 use std::collections::BTreeSet;
 
@@ -106,6 +107,20 @@ impl State {
         if let (Request::Revoke(_, x, o), true) = (request, turns.revoke_takes_all) {
             self.masks.retain(|(_, mode, object)| (*mode, *object) != (x, o));
         }
+    }
+
+    /// Looks at the count of the session's user before anything else, or counts an opening that will be answered no.
+    pub fn spoil_opening(&self, tally: &mut Tally, arguments: [u64; 3]) -> Result<(), u64> {
+        let Some(user) = self.users.get(&arguments[0]) else {
+            return Ok(());
+        };
+        if taken().full_before_answer && tally.is_full(*user) {
+            return Err(23);
+        }
+        if taken().no_counted && self.clone().request(1, arguments) == Ok(false) && !tally.is_full(*user) {
+            tally.advance(*user);
+        }
+        Ok(())
     }
 
     /// Leaves the bound of a set or the direct junior of a link, whatever the answer was.

@@ -2,9 +2,10 @@
 //!
 //! The guard keeps nothing of its own. The caller lends a table of [`WORDS`] words at each call: a role table, written
 //! by [`set_up_roles`] and asked by [`role_request`], or a label table, written by [`set_up_labels`] and asked by
-//! [`label_request`]. How two labels stand ([`Label::stands`]) is asked without a table. Users, roles and objects are 0 to
-//! 63, sessions 0 to 31, modes 0 to 7 and labels 0 to 31; a set of them is a word with bit i set when i is a member. Any
-//! slice and any number may be passed: what does not fit is refused, and a no or a [`Refusal`] leaves all words unchanged.
+//! [`label_request`]. How two labels stand ([`Label::stands`]) and what openings cost ([`Tally::statement`]) is asked without
+//! a table. Users, roles and objects are 0 to 63, sessions 0 to 31, modes 0 to 7 and labels 0 to 31; a set of them is a word
+//! with bit i set when i is a member. Any slice and any number may be passed: what does not fit is refused, and a no or a
+//! [`Refusal`] leaves all that is lent unchanged.
 //!
 //! A programmer who has to store, restore or migrate a table finds in `docs/TABLE.md` of the project the layout of the
 //! words, what sound means, which fault gets which refusal, and byte order.
@@ -113,6 +114,42 @@
 //! # }
 //! ```
 //!
+//! # Licence statement
+//!
+//! Who bills openings keeps a [`Tally`] beside the table and lends both to [`open_tallied`]: a yes advances the count of the
+//! session's user, also for an opening that is held already. A no, a refusal and every other call leave the tally, so that
+//! openings by [`role_request`] and [`label_request`] are not billed. [`Tally::statement`] charges each user in whole cents,
+//! count times the rate in cents per thousand openings, divided by 1,000, halves up, and sums these charges. The example
+//! `statement` prints a bill.
+//!
+//! ```
+//! use sheetguard::{open_tallied, role_request, set_up_roles, Answer, Refusal, RoleRequest, Tally, WORDS};
+//!
+//! # fn main() -> Result<(), Refusal> {
+//! let mut table = [0; WORDS];
+//! set_up_roles(&mut table, &[0; 64], &[1 << 9; 8])?;
+//! for request in [
+//!     RoleRequest::Grant { role: 1, mode: 0, object: 9 },
+//!     RoleRequest::Assign { user: 2, role: 1 },
+//!     RoleRequest::Start { session: 0, user: 2, roles: 1 << 1 },
+//! ] {
+//!     assert_eq!(role_request(&mut table, request)?, Answer::Yes);
+//! }
+//! let mut tally = Tally::new();
+//! for _ in 0..1500 {
+//!     assert_eq!(open_tallied(&mut table, &mut tally, 0, 9, 0)?, Answer::Yes);
+//! }
+//! assert_eq!(open_tallied(&mut table, &mut tally, 0, 8, 0)?, Answer::No); // not counted
+//! assert_eq!(role_request(&mut table, RoleRequest::Open { session: 0, object: 9, mode: 0 })?, Answer::Yes); // nor this
+//! assert_eq!(tally.count(2)?, 1500);
+//!
+//! // 4.5 cents
+//! let statement = tally.statement(3)?;
+//! assert_eq!((statement.charges[2], statement.total), (5, 5));
+//! # Ok(())
+//! # }
+//! ```
+//!
 //! # Labels
 //!
 //! A label is `class * 8 + brand set`: a class 0 to 3, and a set of three brands, worth 1, 2 and 4. Label a *dominates* b
@@ -157,11 +194,13 @@ pub mod numbers;
 mod refusal;
 mod request;
 mod session;
+mod tally;
 
 pub use label::{Label, Standing};
 pub use refusal::{OtherRefusal, Refusal};
 pub use request::{LabelRequest, RoleRequest};
 pub use session::{sessions, Session};
+pub use tally::{open_tallied, Statement, Tally};
 
 /// The number of words of a table.
 pub const WORDS: usize = 1352;

@@ -1,4 +1,4 @@
-//! The guard's calls as the C header has them, on slices and with the scope's numbers: 1 yes, 0 no, 12 to 21 a refusal;
+//! The guard's calls as the C header has them, on slices and with the scope's numbers: 1 yes, 0 no, 12 to 23 a refusal;
 //! how two labels stand is 0 equal, 1 above, 2 below or 3 apart.
 //!
 //! Any slice and any number may be passed; nothing here panics.
@@ -40,10 +40,21 @@ extern "C" {
         n_masks: usize,
     ) -> u64;
     fn sheetguard_authorised_roles(table: *const u64, words: usize, user: u64, roles: *mut u64, n_roles: usize) -> u64;
+    // the counts are the only field of the header's tally
+    fn sheetguard_open_tallied(
+        table: *mut u64,
+        words: usize,
+        tally: *mut [u32; 64],
+        session: u64,
+        object: u64,
+        mode: u64,
+    ) -> u64;
+    fn sheetguard_statement(tally: *const [u32; 64], rate: u64, charges: *mut [u64; 64], total: *mut u64) -> u64;
 }
 
 // In every call below a slice gives its own pointer and length, so that the pointer is not null, is aligned and has as
-// many elements as the length says; what is written is lent by `&mut`, so that it overlaps nothing.
+// many elements as the length says; an array has those of its type. What is written is lent by `&mut`, so that it overlaps
+// nothing.
 
 /// Writes a fresh role table from 64 words of direct juniors and 8 words of permissions.
 #[must_use]
@@ -117,4 +128,18 @@ pub fn effective_permissions(table: &[u64], session: u64, masks: &mut [u64]) -> 
 pub fn authorised_roles(table: &[u64], user: u64, roles: &mut [u64]) -> u64 {
     // SAFETY: see above
     unsafe { sheetguard_authorised_roles(table.as_ptr(), table.len(), user, roles.as_mut_ptr(), roles.len()) }
+}
+
+/// A role opening that advances the count of the session's user at a yes.
+#[must_use]
+pub fn open_tallied(table: &mut [u64], counts: &mut [u32; 64], session: u64, object: u64, mode: u64) -> u64 {
+    // SAFETY: see above
+    unsafe { sheetguard_open_tallied(table.as_mut_ptr(), table.len(), counts, session, object, mode) }
+}
+
+/// Writes the charge of each user in cents at a rate in cents per thousand openings, and the sum of the charges.
+#[must_use]
+pub fn statement(counts: &[u32; 64], rate: u64, charges: &mut [u64; 64], total: &mut u64) -> u64 {
+    // SAFETY: see above
+    unsafe { sheetguard_statement(counts, rate, charges, total) }
 }

@@ -26,6 +26,10 @@ pub enum Refusal {
     Cycle,
     /// 21: the bound of a separation set is below 2 or above the number of its roles, and not both are 0.
     BadPair,
+    /// 22: the rate of a statement is over 1,000,000.
+    BadRate,
+    /// 23: an opening would be answered yes, and the count that it advances is 4,294,967,295 already.
+    FullCount,
     /// A refusal that this crate does not know.
     Other(OtherRefusal),
 }
@@ -57,6 +61,8 @@ impl Refusal {
             19 => Refusal::BadValue,
             20 => Refusal::Cycle,
             21 => Refusal::BadPair,
+            22 => Refusal::BadRate,
+            23 => Refusal::FullCount,
             _ => Refusal::Other(OtherRefusal(number)),
         })
     }
@@ -79,6 +85,8 @@ impl Refusal {
             Refusal::BadValue => (19, "a set-up value is out of range"),
             Refusal::Cycle => (20, "direct juniors lead from a role through another back to it"),
             Refusal::BadPair => (21, "the bound of the set is below 2 or above the number of its roles"),
+            Refusal::BadRate => (22, "the rate is over 1,000,000 cents per thousand openings"),
+            Refusal::FullCount => (23, "the count of the user is full"),
             Refusal::Other(OtherRefusal(number)) => (number, "the reason is not known"),
         }
     }

@@ -20,6 +20,7 @@ pub fn fitted(random: &mut Random, world: &World, steps: Vec<Step>) -> Case {
             Step::Role([1, session, object, mode]) if !world.worded && random.chance(60) => {
                 (*mode, *object) = choose_opening(random, &run.table, *session).unwrap_or((*mode, *object));
             }
+            Step::Tallied(asked) if random.chance(60) => *asked = choose_tallied(random, &run.table).unwrap_or(*asked),
             Step::Role([3, _, user, roles]) => choose_roles(random, world, &run.table, *user, roles),
             Step::Role([6, session, role, _]) if !world.worded && random.chance(30) => {
                 let active = pairs(run.table.get(680..712).unwrap_or(&[]));
@@ -67,6 +68,13 @@ fn choose_opening(random: &mut Random, table: &[u64], session: u64) -> Option<(u
     let mut masks = [0; 8];
     (PLAIN.effective_permissions)(table, session, &mut masks);
     one_of(random, pairs(&masks).into_iter())
+}
+
+/// An opening that is effective, or one that is held already; none where there is none.
+fn choose_tallied(random: &mut Random, table: &[u64]) -> Option<[u64; 3]> {
+    let first = random.one(&[MASKS as usize, MASKS as usize, 712]);
+    let (at, object) = one_of(random, pairs(table.get(first..first + 256)?).into_iter())?;
+    Some([at / 8, object, at % 8])
 }
 
 /// A role with the mode and the object of a pair that it is granted; none where there is none.

@@ -129,12 +129,18 @@ pub fn reading(random: &mut Random, world: &World) -> Step {
     }
 }
 
-/// A request, a reading or likeness, of either layer.
+/// An opening that lends the tally.
+pub fn tallied_opening(random: &mut Random, world: &World) -> Step {
+    Step::Tallied([Field::Session, Field::Object, Field::Mode].map(|field| world.value(random, field)))
+}
+
+/// A request, a reading, likeness or an opening that lends the tally, of either layer.
 pub fn any_call(random: &mut Random, world: &World) -> Step {
-    match random.below(10) {
+    match random.below(11) {
         0 => Step::Alike,
         1 => reading(random, world),
-        2..=5 => Layer::Labels.any_request(random, world),
+        2 => tallied_opening(random, world),
+        3..=6 => Layer::Labels.any_request(random, world),
         _ => Layer::Roles.any_request(random, world),
     }
 }
