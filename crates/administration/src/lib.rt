@@ -1,4 +1,6 @@
 // The requests of administration, codes 7 to 14: who is assigned what, what is granted, separation sets and seniority.
+#![tactic(auto)]
+
 ghost use Rattle.std.specs.Prelude.{◌≡◌, ◌+◌, ◌*◌, ◌≤◌, ◌<◌, length};
 ghost use Rattle.table.specs.Reading.{state};
 ghost use Rattle.table.specs.Table.{table_length};

@@ -121,5 +121,5 @@ unfolding answers openings_only after
 opened_alike t t' [] e o = record { same_answers = refl; alike_after = e }
 opened_alike t t' (q ∷ qs) e o =
     let p = step_alike (alike_elim e) q (and_left _ _ o) in
-    let r = opened_alike _ _ qs (alike_intro p.alike_next) (and_right (eqb q.code 1 or eqb q.code 2) _ o) in
+    let r = opened_alike (role_step t q).state (role_step t' q).state qs (alike_intro p.alike_next) (and_right (eqb q.code 1 or eqb q.code 2) _ o) in
     record { same_answers = ap₂ ◌∷◌ p.same_answer r.same_answers; alike_after = r.alike_after }

@@ -1,4 +1,6 @@
 // Likeness of two tables.
+#![tactic(auto)]
+
 ghost use Rattle.std.specs.Prelude.{◌≡◌, true, length};
 ghost use Rattle.bits.specs.Words.{all};
 ghost use Rattle.table.specs.Reading.{state};

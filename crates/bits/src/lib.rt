@@ -1,4 +1,6 @@
 // Words as sets of the numbers 0 to 63.
+#![tactic(auto)]
+
 ghost use Rattle.std.specs.Prelude.{◌≡◌};
 ghost use Rattle.bits.specs.Words;
 ghost use Rattle.bits.specs.Sets;

@@ -1,4 +1,6 @@
 // The reflexive, transitive closure of the direct juniors of 64 roles, and the test for a cycle.
+#![tactic(auto)]
+
 ghost use Rattle.std.specs.Prelude.{◌≡◌, ◌<◌, length, get_or, eqb};
 ghost use Rattle.bits.specs.Words.{◌implies◌, if◌then◌else◌, has};
 ghost use Rattle.bits.specs.Sets.{each, join};

@@ -5,14 +5,14 @@ ghost use Rattle.entries.specs.Words.{taking, role_item, lattice_item, item_in, 
 use reader::{Fields, Line, Word};
 
 // The mode that a transcript's first accepted line chooses.
-#[derive(Drop)]
+#[derive(Clone, Copy)]
 pub enum Mode {
     RoleMode,
     LatticeMode,
 }
 
 // Where a transcript stands: no mode yet, before an accepted `run`, or behind it.
-#[derive(Drop)]
+#[derive(Clone, Copy)]
 pub enum Phase {
     Opening,
     SettingUp(Mode),
@@ -20,7 +20,7 @@ pub enum Phase {
 }
 
 // The list that a set-up line changes.
-#[derive(Drop)]
+#[derive(Clone, Copy)]
 pub enum Setting {
     Juniors,
     Permissions,
@@ -29,7 +29,7 @@ pub enum Setting {
 }
 
 // What a line of the right form asks for, wherever it stands.
-#[derive(Drop)]
+#[derive(Clone, Copy)]
 pub enum Item {
     Malformed,
     Chooses(Mode),
@@ -39,14 +39,14 @@ pub enum Item {
 }
 
 // Why a line is refused for its form or its place.
-#[derive(Drop)]
+#[derive(Clone, Copy)]
 pub enum Fault {
     WrongForm,
     OutOfPlace,
 }
 
 // What is due for a line where it stands, with the numbers that it takes.
-#[derive(Drop)]
+#[derive(Clone, Copy)]
 pub enum Due {
     Refuse(Fault),
     Choose(Mode),
@@ -56,7 +56,7 @@ pub enum Due {
 }
 
 // A line's fields: how many there are, and their numbers.
-#[derive(Drop)]
+#[derive(Clone, Copy)]
 pub struct Numbers {
     pub count: u64,
     pub a: u64,

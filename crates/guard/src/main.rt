@@ -8,7 +8,7 @@ use table::layout::WORDS;
 use transcript::Progress;
 
 // What came of input: where the transcript stands, and whether all was read and written.
-#[derive(Drop)]
+#[derive(Clone, Copy)]
 struct Block {
     progress: Progress,
     whole: bool,

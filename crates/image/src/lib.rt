@@ -1,4 +1,6 @@
 // The image of a machine state: the test for it, and the label set-up.
+#![tactic(auto)]
+
 ghost use Rattle.std.specs.Prelude.{◌≡◌, ◌+◌, ◌≤◌, length, get_or};
 ghost use Rattle.bits.specs.Words.{◌with◌, pack, tabulate};
 ghost use Rattle.table.specs.Reading.{state};

@@ -14,7 +14,7 @@ use requests::{Answer, Refusal};
 use table::layout::{ASSIGNED, WORDS};
 
 // An answer, and the number of role requests that were made for it.
-#[derive(Drop)]
+#[derive(Clone, Copy)]
 pub struct LabelAnswer {
     pub answer: Answer,
     pub spent: u64,

@@ -8,14 +8,14 @@ use entries::{Due, Mode, Phase, Setting};
 use reader::Line;
 
 // What a request comes to.
-#[derive(Drop)]
+#[derive(Clone, Copy)]
 pub struct Verdict {
     pub answer: u64,
     pub spent: u64,
 }
 
 // What a line comes to.
-#[derive(Drop)]
+#[derive(Clone, Copy)]
 pub struct Reply {
     pub phase: Phase,
     pub answer: u64,

@@ -6,7 +6,7 @@ use reader::{Fields, Reader, Spelled, Word};
 
 // What a block of input gave: whether the line is whole, where the reader stands at its newline or at the block's end, and
 // the place behind that.
-#[derive(Drop)]
+#[derive(Clone, Copy)]
 pub struct Fed {
     pub whole: bool,
     pub reader: Reader,
@@ -46,14 +46,14 @@ fn read_on(r: Reader, block: &[u8], at: usize) -> Fed
 const ROOM: usize = 69;
 
 // What bytes of a block are worth, and the place behind them.
-#[derive(Drop)]
+#[derive(Clone, Copy)]
 struct Taken {
     value: u64,
     next: usize,
 }
 
 // Where in a block the reader stands.
-#[derive(Drop)]
+#[derive(Clone, Copy)]
 struct Reached {
     reader: Reader,
     next: usize,

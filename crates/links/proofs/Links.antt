@@ -100,13 +100,13 @@ module _ (t : List ℕ) (e : length t ≡ table_length) (r q : ℕ) (hr : r < 64
 
 -- the two clauses of a contract
 module _ {t' : List ℕ} (t : List ℕ) (r w : ℕ) {b : Bool} where
-  pub answer_no : b ≡ false → t' ≡ t → (false ≡ b) × (t' ≡ relinked t r w b)
+  pub answer_no : b ≡ false → t' ≡ t → record { answer : false ≡ b; table : t' ≡ relinked t r w b }
   unfolding relinked
-  answer_no e k = (sym e, k ∙ sym (if_false _ _ e))
+  answer_no e k = record { answer = sym e; table = k ∙ sym (if_false _ _ e) }
 
-  pub answer_yes : b ≡ true → t' ≡ encode (refreshed (with_direct (state t) r w)) → (true ≡ b) × (t' ≡ relinked t r w b)
+  pub answer_yes : b ≡ true → t' ≡ encode (refreshed (with_direct (state t) r w)) → record { answer : true ≡ b; table : t' ≡ relinked t r w b }
   unfolding relinked
-  answer_yes e k = (sym e, k ∙ sym (if_true _ _ e))
+  answer_yes e k = record { answer = sym e; table = k ∙ sym (if_true _ _ e) }
 
 -- the rows and the word of role r put back
 pub put_back : (t : List ℕ) {t₁ t₂ rows : List ℕ} (r w : ℕ) {old : ℕ} → length t ≡ table_length

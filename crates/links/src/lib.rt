@@ -1,4 +1,6 @@
 // Change of seniority: a link from a role to a direct junior made, or taken away, on a lent table.
+#![tactic(auto)]
+
 ghost use Rattle.std.specs.Prelude.{◌≡◌, ◌+◌, ◌≤◌, ◌<◌, length, get_or};
 ghost use Rattle.bits.specs.Words.{upd, tabulate};
 ghost use Rattle.table.specs.Changes.{set_seniority, with_direct};

@@ -1,10 +1,12 @@
 // Labels by value, and how two of them stand.
+#![tactic(auto)]
+
 ghost use Rattle.std.specs.Prelude.{◌≡◌, false};
 ghost use Rattle.machine.specs.Label.{class, brands, stands, equal_or_above};
 ghost use Rattle.machine.specs.Number.{standing_number};
 
 // How one label stands to another.
-#[derive(Drop)]
+#[derive(Clone, Copy)]
 pub enum Standing {
     Equal,
     Above,
@@ -39,7 +41,7 @@ impl Standing {
 }
 
 // A label: a class and a set of brands in one number, 0 to 31.
-#[derive(Drop)]
+#[derive(Clone, Copy)]
 pub struct Label {
     pub number: u64,
 }

@@ -1,5 +1,7 @@
 // The masks of what each session may open, worked out anew: of all sessions, for which the objects of each role are gathered and
 // those of each session's roles joined; of one session; and one pair of all.
+#![tactic(auto)]
+
 ghost use Rattle.std.specs.Prelude.{◌≡◌, ◌+◌, ◌<◌, length};
 ghost use Rattle.table.specs.Masks;
 ghost use Rattle.table.specs.Reading.{state};

@@ -1,4 +1,6 @@
 // The arguments of the fourteen role requests.
+#![tactic(auto)]
+
 ghost use Rattle.std.specs.Prelude.{◌≡◌, [], ◌-◌, ◌≤◌, get_or};
 ghost use Rattle.bits.specs.Words.{◌and◌};
 ghost use Rattle.requests.specs.Request.{ask};

@@ -1,10 +1,12 @@
 // Reads a transcript line a byte at a time.
+#![tactic(auto)]
+
 ghost use Rattle.std.specs.Prelude.{◌≡◌};
 ghost use Rattle.reader.specs.Line.{digit};
 ghost use Rattle.reader.specs.Reader.{letter, word_of, pushed, step_of, ended, finished, fresh};
 
 // The words of both modes.
-#[derive(Drop)]
+#[derive(Clone, Copy)]
 pub enum Word {
     Roles,
     Lattice,
@@ -27,14 +29,14 @@ pub enum Word {
 }
 
 // The word that letters spell, if they spell one.
-#[derive(Drop)]
+#[derive(Clone, Copy)]
 pub enum Spelled {
     As(Word),
     Nothing,
 }
 
 // The numbers of a line: three at most.
-#[derive(Drop)]
+#[derive(Clone, Copy)]
 pub enum Fields {
     Without,
     One(u64),
@@ -43,14 +45,14 @@ pub enum Fields {
 }
 
 // A line that was read, or refusal 10.
-#[derive(Drop)]
+#[derive(Clone, Copy)]
 pub enum Line {
     Read(Word, Fields),
     Refused,
 }
 
 // Where in a line the reader stands.
-#[derive(Drop)]
+#[derive(Clone, Copy)]
 pub enum Reader {
     // In the word: its letters so far, a byte each in one number.
     Letters(u64),

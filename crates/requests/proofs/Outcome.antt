@@ -31,8 +31,9 @@ pub refused : {t : List ℕ} {n : ℕ} → Comes t n (refuse n t)
 refused = record { answer = refl; table = refl }
 
 -- the two clauses of a contract
-pub both : {t' : List ℕ} {n : ℕ} {o : Outcome (List ℕ)} → Comes t' n o → (n ≡ o.answer) × (t' ≡ o.state)
-both c = (c.answer, c.table)
+pub both : {t' : List ℕ} {n : ℕ} {o : Outcome (List ℕ)} → Comes t' n o → record { answer : n ≡ o.answer; table : t' ≡ o.state }
+both c = record { answer = c.answer; table = c.table }
 
-pub both_to : {t' : List ℕ} {n : ℕ} {o o' : Outcome (List ℕ)} → o ≡ o' → (n ≡ o'.answer) × (t' ≡ o'.state) → (n ≡ o.answer) × (t' ≡ o.state)
-both_to e c = both (comes_to e (record { answer = c.0; table = c.1 }))
+pub both_to : {t' : List ℕ} {n : ℕ} {o o' : Outcome (List ℕ)} → o ≡ o'
+    → record { answer : n ≡ o'.answer; table : t' ≡ o'.state } → record { answer : n ≡ o.answer; table : t' ≡ o.state }
+both_to e c = both (comes_to e (record { answer = c.answer; table = c.table }))

@@ -1,11 +1,13 @@
 // Requests as they come, and the numbers of their answers.
+#![tactic(auto)]
+
 ghost use Rattle.std.specs.Prelude.{◌≡◌};
 ghost use Rattle.requests.specs.Request;
 ghost use Rattle.requests.specs.Request.{ask};
 ghost use Rattle.requests.specs.Answer.{refusal_number, number_of};
 
 // Why a request, a set-up or a statement is refused.
-#[derive(Drop)]
+#[derive(Clone, Copy)]
 pub enum Refusal {
     WrongLength,
     Unsound,
@@ -22,7 +24,7 @@ pub enum Refusal {
 }
 
 // What a request comes to.
-#[derive(Drop)]
+#[derive(Clone, Copy)]
 pub enum Answer {
     Yes,
     No,

@@ -1,4 +1,6 @@
 // Separation of duties: the sets, and what they ask of users and sessions.
+#![tactic(auto)]
+
 ghost use Rattle.std.specs.Prelude.{◌≡◌, ◌≤◌, length};
 ghost use Rattle.bits.specs.Words.{has};
 ghost use Rattle.table.specs.Separation.{bad_pair, fewer, static_holds, dynamic_holds, static_sets_hold, dynamic_sets_hold, pairs_good};

@@ -1,4 +1,6 @@
 // The requests of sessions, codes 1 to 6: open, close, start, end, activate and drop.
+#![tactic(auto)]
+
 ghost use Rattle.std.specs.Prelude.{◌≡◌, ◌+◌, ◌≤◌, length};
 ghost use Rattle.bits.specs.Words.{tabulate};
 ghost use Rattle.table.specs.Answers.{overlay};

@@ -1,4 +1,6 @@
 // The role set-up.
+#![tactic(auto)]
+
 ghost use Rattle.std.specs.Prelude.{◌≡◌, length, get_or};
 ghost use Rattle.bits.specs.Words.{tabulate};
 ghost use Rattle.bits.specs.Sets.{◌without◌};

@@ -102,8 +102,8 @@ module _ (S : State) (f : Ruled S) where
 
 -- session s fits: its roles, and what it holds
 pub record SessionFits (S : State) (s : ℕ) : Type 0 where
-  pub roles_fit_lem : roles_fit S s ≡ true
-  pub held_within_lem : (x : ℕ) → x < 8 → subset (S.holds s x) (S.masks s x) ≡ true
+  pub roles_fit : roles_fit S s ≡ true
+  pub held_within : (x : ℕ) → x < 8 → subset (S.holds s x) (S.masks s x) ≡ true
 
 module _ (S : State) (w : Words S)
     (by-role : (r : ℕ) → r < 64 → role_fits S r ≡ true)

@@ -1,4 +1,6 @@
 // The soundness test, and the parts of it that one change of a sound table can break.
+#![tactic(auto)]
+
 ghost use Rattle.std.specs.Prelude.{◌≡◌, ◌+◌, ◌≤◌, ◌<◌, length, get_or};
 ghost use Rattle.table.specs.Masks.{masks_true};
 ghost use Rattle.table.specs.Reading.{state};

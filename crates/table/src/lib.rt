@@ -1,4 +1,6 @@
 // The table, and the RBAC96 state that it shows.
+#![tactic(auto)]
+
 pub mod layout;
 
 ghost use Rattle.std.specs.Prelude.{◌≡◌, ◌+◌, ◌≤◌, ◌<◌, length};

@@ -9,7 +9,7 @@ use output::ROW;
 use reader::Reader;
 
 // Between two blocks of input: the phase, the number of the line that is being read, and its reader.
-#[derive(Drop)]
+#[derive(Clone, Copy)]
 pub struct Progress {
     pub phase: Phase,
     pub number: u64,
@@ -17,7 +17,7 @@ pub struct Progress {
 }
 
 // Where the serving of a block stopped: the place of the next byte in the block, and of the next in the output.
-#[derive(Drop)]
+#[derive(Clone, Copy)]
 pub struct Served {
     pub progress: Progress,
     pub next: usize,

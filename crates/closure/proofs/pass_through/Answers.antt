@@ -1,0 +1,44 @@
+-- The goals that are left.
+use borrow.Author.Rules.{rules}
+use Prim.Native.Nat.{ℕ, ◌-◌, ◌≤◌, ◌<◌}
+use mathlib.Core.Path.{refl, sym, ap, ◌∙◌}
+use native.Mathlib.Omega.{arith}
+use lib.ListN.{length, get_or}
+use Rattle.bits.specs.Words.{if◌then◌else◌, has, tabulate}
+use Rattle.bits.specs.Sets.{join}
+use Rattle.bits.proofs.Tabulate.{Writing, write_start, write_step, write_end}
+use Rattle.closure.specs.Closure.{via}
+use Rattle.closure.proofs.Closure.{passed, via_none}
+use Rattle.closure.proofs.pass_through.Goals as goal
+
+pub returns-then-without-eq0 : goal.returns-then-without-eq0
+returns-then-without-eq0 c = via_none c.args.k c.args.rows.now c.requires.0 (λ r. (c.type_inv.rows r).fits) (sym c.without.ensures ∙ c.if-without-eq0.true)
+
+pub loop-r-preserved : goal.loop-r-preserved
+loop-r-preserved c =
+    let l = c.loop-r in
+    let a = c.args in
+    let m = l.invariant.0.long in
+    let p = c.requires.0 in
+    let h : l.r < length l.rows = omega arith in (
+      write_step l.invariant.0 h
+          (c.passed_row.ensures
+          ∙ ap (λ (w : ℕ). if◌then◌else◌ (has w a.k) (join w (get_or a.rows.now a.k 0)) w) (l.invariant.0.after l.r (omega arith))),
+      omega arith,
+    )
+
+pub returns : goal.returns
+unfolding via
+returns c =
+    let l = c.loop-r in
+    let a = c.args in
+    let p = c.requires.0 in
+    let left = c.loop-r-test.false in
+    write_end (passed a.rows.now a.k) l.invariant.0 (λ j h. absurd (omega arith)) (λ j h k. refl) (λ j h k. absurd (omega arith))
+    ∙ ap (λ (n : ℕ). tabulate n (passed a.rows.now a.k)) p
+
+pub loop-r-init : goal.loop-r-init
+loop-r-init c = (write_start, omega arith)
+
+pub shape_of-rows : goal.shape_of-rows
+shape_of-rows c = c.loop-r.invariant.0.long

@@ -1,0 +1,24 @@
+-- `is_above` meets its contract. Assumes nothing.
+use borrow.Author.Rules.{rules}
+use mathlib.Core.Path.{sym, ap, ◌∙◌}
+use Rattle.machine.specs.Label.{equal_or_above}
+use Rattle.image.proofs.Above.{above_reads, above_no_write, above_writes, above_no_read}
+use Rattle.image.proofs.is_above.Goals as goal
+
+pub returns-then-q-ge32 : goal.returns-then-q-ge32
+returns-then-q-ge32 c = sym (above_no_write c.if-r-lt32.true c.if-q-ge32.true)
+
+pub returns-then-r-lt32 : goal.returns-then-r-lt32
+returns-then-r-lt32 c =
+    c.equal_or_above.ensures
+    ∙ ap equal_or_above c.standing_of.ensures
+    ∙ sym (above_reads c.if-r-lt32.true c.if-q-ge32.false)
+
+pub returns-then-q-lt32 : goal.returns-then-q-lt32
+returns-then-q-lt32 c = sym (above_no_read c.if-r-lt32.false c.if-q-lt32.true)
+
+pub returns : goal.returns
+returns c =
+    c.equal_or_above-2.ensures
+    ∙ ap equal_or_above c.standing_of-2.ensures
+    ∙ sym (above_writes c.if-r-lt32.false c.if-q-lt32.false)

@@ -1,0 +1,10 @@
+-- `joined_rows` meets its contract: the objects of the roles passed are joined, and those of `left` are to come. Assumes nothing.
+use borrow.Author.Rules.{rules}
+use Rattle.masks.proofs.Joined.{JoiningRows, rows_start, rows_step, rows_end}
+use Rattle.masks.proofs.joined_rows.Given as goal
+
+abbrev pub invariant-loop-left : goal.invariant-loop-left
+invariant-loop-left l = JoiningRows l.objects l.roles l.words l.left
+
+abbrev pub decreases-loop-left : goal.decreases-loop-left
+decreases-loop-left l = l.left

@@ -1,0 +1,10 @@
+-- `note` meets its contract: the object is noted at the roles passed, and those of `left` are to come. Assumes nothing.
+use borrow.Author.Rules.{rules}
+use Rattle.masks.proofs.Gathering.{Noting, note_start, note_step, note_end}
+use Rattle.masks.proofs.note.Given as goal
+
+abbrev pub invariant-loop-left : goal.invariant-loop-left
+invariant-loop-left l = Noting l.x l.o l.initial.objects l.roles l.objects l.left
+
+abbrev pub decreases-loop-left : goal.decreases-loop-left
+decreases-loop-left l = l.left

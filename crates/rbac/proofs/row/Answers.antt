@@ -1,0 +1,61 @@
+-- `row` meets its contract: an arm for each code. Assumes nothing.
+use borrow.Author.Rules.{rules}
+use Rattle.rbac.specs.Roles.{limits}
+use Rattle.rbac.proofs.Codes.{NoneOf, the_last}
+use Rattle.rbac.proofs.row.Goals as goal
+
+pub returns-in-1 : goal.returns-in-1
+unfolding limits NoneOf
+returns-in-1 c = rw c.in-1.is
+
+pub returns-in-2 : goal.returns-in-2
+unfolding limits NoneOf
+returns-in-2 c = rw c.in-2.is
+
+pub returns-in-3 : goal.returns-in-3
+unfolding limits NoneOf
+returns-in-3 c = rw c.in-3.is
+
+pub returns-in-4 : goal.returns-in-4
+unfolding limits NoneOf
+returns-in-4 c = rw c.in-4.is
+
+pub returns-in-5 : goal.returns-in-5
+unfolding limits NoneOf
+returns-in-5 c = rw c.in-5.is
+
+pub returns-in-6 : goal.returns-in-6
+unfolding limits NoneOf
+returns-in-6 c = rw c.in-6.is
+
+pub returns-in-7 : goal.returns-in-7
+unfolding limits NoneOf
+returns-in-7 c = rw c.in-7.is
+
+pub returns-in-8 : goal.returns-in-8
+unfolding limits NoneOf
+returns-in-8 c = rw c.in-8.is
+
+pub returns-in-9 : goal.returns-in-9
+unfolding limits NoneOf
+returns-in-9 c = rw c.in-9.is
+
+pub returns-in-10 : goal.returns-in-10
+unfolding limits NoneOf
+returns-in-10 c = rw c.in-10.is
+
+pub returns-in-11 : goal.returns-in-11
+unfolding limits NoneOf
+returns-in-11 c = rw c.in-11.is
+
+pub returns-in-12 : goal.returns-in-12
+unfolding limits NoneOf
+returns-in-12 c = rw c.in-12.is
+
+pub returns-in-13 : goal.returns-in-13
+unfolding limits NoneOf
+returns-in-13 c = rw c.in-13.is
+
+pub returns-in_default : goal.returns-in_default
+unfolding limits NoneOf
+returns-in_default c = let p = c.requires in rw (the_last 0 13 p.0 p.1 c.in_default.in_default-own.rest)

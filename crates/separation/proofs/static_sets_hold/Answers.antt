@@ -1,0 +1,24 @@
+-- `static_sets_hold` meets its contract: no static set is in use, or every user is asked. Assumes nothing.
+use borrow.Author.Rules.{rules}
+use mathlib.Core.Path.{sym, ◌∙◌}
+use Rattle.bits.proofs.Truth.{false_and}
+use Rattle.bits.proofs.Below.{all_intro}
+use Rattle.table.specs.Authority.{authorised}
+use Rattle.table.specs.Reading.{state}
+use Rattle.table.proofs.Table.{not_table}
+use Rattle.separation.specs.Answers.{static_sets_of}
+use Rattle.separation.proofs.Sets.{static_sets_are, unused_fit, users_is}
+use Rattle.separation.proofs.static_sets_hold.Goals as goal
+
+pub returns-then-t-ne-WORDS : goal.returns-then-t-ne-WORDS
+unfolding static_sets_of
+returns-then-t-ne-WORDS c = sym (false_and _ (not_table _ c.if-t-ne-WORDS.true))
+
+pub returns-then-words_empty : goal.returns-then-words_empty
+returns-then-words_empty c =
+    let t = c.args.t.now in
+    let e = sym c.words_empty.ensures ∙ c.if-words_empty.true in
+    sym (all_intro _ 64 (λ u h. unused_fit t 0 (authorised (state t) u) e)) ∙ users_is (state t) ∙ static_sets_are t c.if-t-ne-WORDS.false
+
+pub returns : goal.returns
+returns c = c.users_separate.ensures ∙ static_sets_are _ c.if-t-ne-WORDS.false

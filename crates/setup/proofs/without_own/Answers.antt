@@ -1,0 +1,17 @@
+-- The goals that are left.
+use borrow.Author.Rules.{rules}
+use Prim.Native.Nat.{◌-◌}
+use mathlib.Core.Path.{refl}
+use lib.ListN.{get_or}
+use Rattle.bits.specs.Sets.{◌without◌}
+use Rattle.bits.proofs.Tabulate.{Filling, fill_start, fill_step, fill_end}
+use Rattle.setup.proofs.without_own.Goals as goal
+
+pub loop-r-init : goal.loop-r-init
+loop-r-init c = fill_start refl
+
+pub loop-r-preserved : goal.loop-r-preserved
+loop-r-preserved c = fill_step c.loop-r.invariant c.loop-r-test.true c.without.ensures
+
+pub returns : goal.returns
+returns c = fill_end c.loop-r.invariant c.loop-r-test.false
