@@ -1,4 +1,6 @@
 // What a line asks for where it stands: refusals 10 and 11.
+#![tactic(auto)]
+
 ghost use Rattle.std.specs.Prelude.{◌≡◌};
 ghost use Rattle.entries.specs.Words.{taking, role_item, lattice_item, item_in, numbers_of, fault_number, due_in, due_of};
 

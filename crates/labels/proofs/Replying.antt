@@ -32,19 +32,21 @@ planned_as t e = replied_as (ap (λ (p : Request). carry_out sound_step t (plan 
 
 -- the three clauses of a contract
 pub clauses : {r : LabelAnswer} {t : List ℕ} {o : Outcome (List ℕ)} → Replied r t o
-    → (number_of r.answer ≡ o.answer) × ((r.spent ≡ o.spent) × (t ≡ o.state))
-clauses p = (p.answer, (p.spent, p.table))
+    → record { answer : number_of r.answer ≡ o.answer; spent : r.spent ≡ o.spent; table : t ≡ o.state }
+clauses p = record { answer = p.answer; spent = p.spent; table = p.table }
 
 pub refused_clauses : {k f : ℕ} {t : List ℕ} {o : Outcome (List ℕ)} (n : ℕ) → o ≡ refuse n t → k ≡ n → f ≡ 0
-    → (k ≡ o.answer) × ((f ≡ o.spent) × (t ≡ o.state))
-refused_clauses n e a b = (
-  a ∙ sym (ap (λ (p : Outcome (List ℕ)). p.answer) e),
-  (b ∙ sym (ap (λ (p : Outcome (List ℕ)). p.spent) e), sym (ap (λ (p : Outcome (List ℕ)). p.state) e)),
-)
+    → record { answer : k ≡ o.answer; spent : f ≡ o.spent; table : t ≡ o.state }
+refused_clauses n e a b = record {
+  answer = a ∙ sym (ap (λ (p : Outcome (List ℕ)). p.answer) e);
+  spent = b ∙ sym (ap (λ (p : Outcome (List ℕ)). p.spent) e);
+  table = sym (ap (λ (p : Outcome (List ℕ)). p.state) e);
+}
 
-pub clauses_as : {k f : ℕ} {t : List ℕ} {o o' : Outcome (List ℕ)} → o ≡ o' → (k ≡ o'.answer) × ((f ≡ o'.spent) × (t ≡ o'.state))
-    → (k ≡ o.answer) × ((f ≡ o.spent) × (t ≡ o.state))
-clauses_as e p = (
-  p.0 ∙ sym (ap (λ (p : Outcome (List ℕ)). p.answer) e),
-  (p.1.0 ∙ sym (ap (λ (p : Outcome (List ℕ)). p.spent) e), p.1.1 ∙ sym (ap (λ (p : Outcome (List ℕ)). p.state) e)),
-)
+pub clauses_as : {k f : ℕ} {t : List ℕ} {o o' : Outcome (List ℕ)} → o ≡ o' → record { answer : k ≡ o'.answer; spent : f ≡ o'.spent; table : t ≡ o'.state }
+    → record { answer : k ≡ o.answer; spent : f ≡ o.spent; table : t ≡ o.state }
+clauses_as e p = record {
+  answer = p.answer ∙ sym (ap (λ (p : Outcome (List ℕ)). p.answer) e);
+  spent = p.spent ∙ sym (ap (λ (p : Outcome (List ℕ)). p.spent) e);
+  table = p.table ∙ sym (ap (λ (p : Outcome (List ℕ)). p.state) e);
+}

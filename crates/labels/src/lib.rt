@@ -1,4 +1,6 @@
 // The label layer: five label requests on a lent table, carried out by role requests.
+#![tactic(auto)]
+
 ghost use Rattle.std.specs.Prelude.{◌≡◌, true, ◌+◌, ◌-◌, ◌≤◌, ◌<◌, [], length, get_or};
 ghost use Rattle.bits.specs.Words.{◌with◌};
 ghost use Rattle.table.specs.Reading.{state};

@@ -1,4 +1,6 @@
 // Reads lines from blocks of input in one pass: a usual line at once, and any other from where that left off, a byte at a time.
+#![tactic(auto)]
+
 ghost use Rattle.std.specs.Prelude.{◌≡◌, ◌+◌, ◌≤◌, drop, length};
 ghost use Rattle.lines.specs.Blocks.{fed, GoesOn, DigitsGoOn};
 

@@ -1,4 +1,6 @@
 // The transcript's output as bytes: the header, and rows written into a lent buffer.
+#![tactic(auto)]
+
 ghost use Rattle.std.specs.Prelude.{◌≡◌, ◌+◌, ◌≤◌, length, take, drop};
 ghost use Rattle.output.specs.Text;
 ghost use Rattle.output.specs.Text.{Wrote, text, decimal, next, column, row_of, row, row_room, fitting, holding, numbered};

@@ -53,13 +53,13 @@ module _ (t : List ℕ) where
 
 -- the number n of an answer that says whether the words can be read
 module _ (t : List ℕ) (known : Bool) (out words : List ℕ) {n : ℕ} (e : n ≡ readable t known) where
-  pub read_refused : (n ≡ 1 → ⊥) → (n ≡ (read t known out words).answer) × (out ≡ (read t known out words).words)
+  pub read_refused : (n ≡ 1 → ⊥) → record { answer : n ≡ (read t known out words).answer; words : out ≡ (read t known out words).words }
   unfolding read told
-  read_refused d = (e, sym (if_false words out (ne_eqb (readable t known) 1 (λ h. d (e ∙ h)))))
+  read_refused d = record { answer = e; words = sym (if_false words out (ne_eqb (readable t known) 1 (λ h. d (e ∙ h)))) }
 
-  pub read_given : {written : List ℕ} → n ≡ 1 → written ≡ words → (n ≡ (read t known out words).answer) × (written ≡ (read t known out words).words)
+  pub read_given : {written : List ℕ} → n ≡ 1 → written ≡ words → record { answer : n ≡ (read t known out words).answer; words : written ≡ (read t known out words).words }
   unfolding read told
-  read_given h w = (e, w ∙ sym (if_true words out (eq-eqb (readable t known) 1 (sym e ∙ h))))
+  read_given h w = record { answer = e; words = w ∙ sym (if_true words out (eq-eqb (readable t known) 1 (sym e ∙ h))) }
 
 -- words laid over as many
 pub overlay_whole : (t words : List ℕ) → length t ≡ length words → overlay t 0 words ≡ words

@@ -1,4 +1,6 @@
 // The guard for programs in C and Rust: each function under its plain name, with the same equations.
+#![tactic(auto)]
+
 ghost use Rattle.std.specs.Prelude.{◌≡◌, ◌<◌, eqb, ltb, length};
 ghost use Rattle.bits.specs.Words.{◌and◌, tabulate};
 ghost use Rattle.table.specs.Reading.{state};
@@ -193,7 +195,8 @@ pub extern "C" fn sheetguard_open_tallied(
 {
     let counts = tally.counts;
     let next = tally::open(table, counts, session, object, mode);
-    tally.counts = next.counts;
+    let counted = next.counts;
+    tally.counts = counted;
     next.answer
 }
 

@@ -17,9 +17,13 @@ use Rattle.simulation.proofs.Simulation.{one_step_served}
 use Rattle.simulation.proofs.Demand.{trace_agrees, final_agrees, begin_good, begin_table}
 
 -- the three clauses of a contract
-pub three : {n : ℕ} {t out : List ℕ} {l : Left} → l ≡ kept n t out → (n ≡ l.answer) × ((t ≡ l.table) × (out ≡ l.replies))
+pub three : {n : ℕ} {t out : List ℕ} {l : Left} → l ≡ kept n t out → record { answer : n ≡ l.answer; table : t ≡ l.table; replies : out ≡ l.replies }
 unfolding kept
-three e = (sym (ap (λ (l : Left). l.answer) e), (sym (ap (λ (l : Left). l.table) e), sym (ap (λ (l : Left). l.replies) e)))
+three e = record {
+  answer = sym (ap (λ (l : Left). l.answer) e);
+  table = sym (ap (λ (l : Left). l.table) e);
+  replies = sym (ap (λ (l : Left). l.replies) e);
+}
 
 module _ (t clearances labels words old : List ℕ) where
   abbrev outcome : Left

@@ -1,4 +1,6 @@
 // A label set-up and a list of label requests in one call.
+#![tactic(auto)]
+
 ghost use Rattle.std.specs.Prelude.{◌≡◌, ◌*◌, ◌/◌, length};
 ghost use Rattle.requests.specs.Answer.{number_of};
 ghost use Rattle.machine.specs.Wall.{trace, final};

@@ -1,0 +1,13 @@
+-- `is_yes` meets its contract. Assumes nothing.
+use borrow.Author.Rules.{rules}
+use Prim.Native.Nat.{ℕ}
+use mathlib.Core.Path.{ap, ◌∙◌}
+use lib.Dec.{eqb}
+use Rattle.labels.specs.Guard.{says_yes}
+use Rattle.labels.proofs.is_yes.Goals as goal
+
+pub returns : goal.returns
+unfolding says_yes
+returns c =
+    let done = c.serve.ensures in
+    record { answer = ap (λ (n : ℕ). eqb n 1) (c.number.ensures ∙ done.answer); table = done.table }
