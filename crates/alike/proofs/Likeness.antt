@@ -7,7 +7,7 @@ use native.Mathlib.Omega.{arith}
 use lib.Dec.{eqb}
 use lib.ListN.{length}
 use borrow.Author.Tests.{eq-eqb, eqb-true}
-use Rattle.bits.specs.Words.{◌and◌, if◌then◌else◌, has, all, pack}
+use Rattle.bits.specs.Words.{◌and◌, when◌then◌else◌, has, all, pack}
 use Rattle.bits.proofs.Truth.{same_truth, and_intro, and_left, and_right, past, stopped, if_true, if_false}
 use Rattle.bits.proofs.Below.{all_intro, all_elim, all_cong}
 use Rattle.bits.proofs.Word.{has_pack, pack_cong}
@@ -104,7 +104,7 @@ module _ (first second : List ℕ) where
     like_second_unsound j r = sym (past _ _ (sound_table first f) ∙ past _ _ (sound_state first f) ∙ past _ _ j ∙ stopped _ _ r)
 
     module _ (g : is_sound second ≡ true) where
-      compared : likeness first second ≡ (if same_state (state first) (state second) then 1 else 0)
+      compared : likeness first second ≡ (when same_state (state first) (state second) then 1 else 0)
       unfolding likeness
       compared =
           past _ _ (sound_table first f) ∙ past _ _ (sound_state first f) ∙ past _ _ (sound_table second g) ∙ past _ _ (sound_state second g)

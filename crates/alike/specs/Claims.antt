@@ -1,7 +1,7 @@
 -- What is claimed of likeness, each as the answer to a question. proofs/Claims.antt proves them, but for `OpenedAlike`
 -- (proofs/Opening.antt) and `ActivationsDiffer` (proofs/Apart.antt).
-use Rattle.std.specs.Prelude.{◌↔◌}
-use Rattle.bits.specs.Words.{ℕ, ◌<◌, ◌≡◌, Bool, true, false, List, [], ◌∷◌, eqb, ◌and◌, ◌or◌}
+use Rattle.std.specs.Prelude.{◌↔◌, ◌<◌, ◌≡◌, ◌∷◌}
+use Rattle.bits.specs.Words.{ℕ, Bool, true, false, List, [], eqb, ◌and◌, ◌or◌}
 use Rattle.table.specs.State.{State}
 use Rattle.table.specs.Authority.{idle, authorised}
 use Rattle.table.specs.Separation.{sets_empty}

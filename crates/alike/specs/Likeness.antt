@@ -1,6 +1,7 @@
 -- Likeness of two tables (01, "Set-up and likeness"; 02, S-7): the same openings, the same effective permissions of each session
 -- and the same authorised roles of each user.
-use Rattle.bits.specs.Words.{ℕ, ◌<◌, ◌≡◌, Bool, not, List, eqb, ◌and◌, if◌then◌else◌, all, pack}
+use Rattle.std.specs.Prelude.{◌<◌, ◌≡◌}
+use Rattle.bits.specs.Words.{ℕ, Bool, not, List, eqb, ◌and◌, when◌then◌else◌, all, pack}
 use Rattle.table.specs.State.{State}
 use Rattle.table.specs.Authority.{authorised, effective}
 use Rattle.table.specs.Sound.{sound}
@@ -25,11 +26,11 @@ same_state S S' = all 32 (λ s. same_session S S' s) and all 64 (λ u. same_user
 -- 12 then 13 for the first table, then for the second, else 1 or 0
 unfoldable pub likeness : List ℕ → List ℕ → ℕ
 likeness first second =
-    if not (is_table first) then 12 else
-    if not (sound (state first)) then 13 else
-    if not (is_table second) then 12 else
-    if not (sound (state second)) then 13 else
-    if same_state (state first) (state second) then 1 else 0
+    when not (is_table first) then 12 else
+    when not (sound (state first)) then 13 else
+    when not (is_table second) then 12 else
+    when not (sound (state second)) then 13 else
+    when same_state (state first) (state second) then 1 else 0
 
 -- the same, as plain facts
 pub record Alike (S S' : State) : Type 0 where

@@ -2,7 +2,7 @@
 use mathlib.Core.Path.{◌≡◌, refl, sym, ap, ◌∙◌}
 use mathlib.Core.Bool.{Bool, true, false, not, true≢false}
 use borrow.Author.Tests.{not-true, not-false}
-use Rattle.bits.specs.Words.{◌and◌, ◌or◌, ◌implies◌, if◌then◌else◌}
+use Rattle.bits.specs.Words.{◌and◌, ◌or◌, ◌implies◌, when◌then◌else◌}
 
 -- ---- truth values
 
@@ -128,24 +128,24 @@ implies_counter false b e = clash e refl
 
 -- ---- choice
 
-pub if_true : {A : Type 0} {b : Bool} (x y : A) → b ≡ true → (if b then x else y) ≡ x
-unfolding if◌then◌else◌
-if_true x y p = rw (p, if◌then◌else◌)
+pub if_true : {A : Type 0} {b : Bool} (x y : A) → b ≡ true → (when b then x else y) ≡ x
+unfolding when◌then◌else◌
+if_true x y p = rw (p, when◌then◌else◌)
 
-pub if_false : {A : Type 0} {b : Bool} (x y : A) → b ≡ false → (if b then x else y) ≡ y
-unfolding if◌then◌else◌
-if_false x y p = rw (p, if◌then◌else◌)
+pub if_false : {A : Type 0} {b : Bool} (x y : A) → b ≡ false → (when b then x else y) ≡ y
+unfolding when◌then◌else◌
+if_false x y p = rw (p, when◌then◌else◌)
 
 -- what holds of a choice, by its test
-pub by_if : {A : Type 0} (P : A → Type 0) (b : Bool) {x y : A} → (b ≡ true → P x) → (b ≡ false → P y) → P (if b then x else y)
+pub by_if : {A : Type 0} (P : A → Type 0) (b : Bool) {x y : A} → (b ≡ true → P x) → (b ≡ false → P y) → P (when b then x else y)
 by_if P b {x} {y} f g = by_truth b (λ p. rw (if_true x y p) (f p)) (λ p. rw (if_false x y p) (g p))
 
-pub if_same : {A : Type 0} (b : Bool) (x : A) → (if b then x else x) ≡ x
+pub if_same : {A : Type 0} (b : Bool) (x : A) → (when b then x else x) ≡ x
 if_same b x = by_truth b (if_true x x) (if_false x x)
 
 -- past a test that does not refuse, and stopped by one that does
-pub past : {A : Type 0} {b : Bool} (x y : A) → b ≡ true → (if not b then x else y) ≡ y
+pub past : {A : Type 0} {b : Bool} (x y : A) → b ≡ true → (when not b then x else y) ≡ y
 past x y p = if_false x y (ap not p)
 
-pub stopped : {A : Type 0} {b : Bool} (x y : A) → b ≡ false → (if not b then x else y) ≡ x
+pub stopped : {A : Type 0} {b : Bool} (x y : A) → b ≡ false → (when not b then x else y) ≡ x
 stopped x y p = if_true x y (ap not p)

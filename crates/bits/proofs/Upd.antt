@@ -3,7 +3,7 @@ use Prim.Native.Nat.{ℕ}
 use mathlib.Core.Path.{◌≡◌, refl, sym, ap, ap₂, subst, ◌∙◌}
 use lib.Dec.{eqb}
 use borrow.Author.Tests.{eq-eqb, ne_eqb, eqb-true, eqb-false}
-use Rattle.bits.specs.Words.{if◌then◌else◌, upd}
+use Rattle.bits.specs.Words.{when◌then◌else◌, upd}
 use Rattle.bits.proofs.Truth.{by_truth, if_true, if_false}
 
 module _ {A : Type 0} (f : ℕ → A) (i : ℕ) (v : A) where
@@ -60,7 +60,7 @@ upd_twice f i v w j =
 -- values that agree, with values that agree put in
 pub upd_agree : {A : Type 0} (f g : ℕ → A) (i j : ℕ) {v w : A} → v ≡ w → f j ≡ g j → upd f i v j ≡ upd g i w j
 unfolding upd
-upd_agree f g i j e k = ap₂ (if◌then◌else◌ (eqb j i)) e k
+upd_agree f g i j e k = ap₂ (when◌then◌else◌ (eqb j i)) e k
 
 pub row_agree : (f g : ℕ → ℕ → ℕ) (i j x : ℕ) (v w : ℕ → ℕ) → v x ≡ w x → f j x ≡ g j x → upd f i v j x ≡ upd g i w j x
 row_agree f g i j x v w e k =

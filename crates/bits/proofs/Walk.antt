@@ -12,7 +12,7 @@ use lib.Count.{count_trailing_zeros, under, trailing_of_zero}
 use lib.Bits.{bit_and, and_self, and_block, and_mask, or_shifted, and_shifted}
 use lib.Pow.{pow_pos, pow_mono, pow-lt}
 use borrow.Author.Tests.{eq-eqb, ne_eqb, eqb-true, eqb-false}
-use Rattle.bits.specs.Words.{◌and◌, ◌or◌, if◌then◌else◌, has, bit, pack, ◌with◌}
+use Rattle.bits.specs.Words.{◌and◌, ◌or◌, when◌then◌else◌, has, bit, pack, ◌with◌}
 use Rattle.bits.specs.Sets.{each, any, least, ◌without◌, join, lowest, rest, some, IsLowest, IsRest}
 use Rattle.bits.proofs.Truth.{clash, by_truth, is_false, same_truth, and_intro, and_left, and_right, or_left, or_right, or_elim, or_false, false_or, or_assoc, true_and, false_and}
 use Rattle.bits.proofs.Below.{least_is}
@@ -153,7 +153,7 @@ module _ (w : ℕ) (l : w < 2 ^ 64) (n : w ≡ 0 → ⊥) where
         (λ k. let s = some_elim (rest w) f k in some_intro w f s.at s.below (rest_in s.at s.below s.member) s.holds))
 
 pub lowest_none : lowest 0 ≡ 0
-unfolding lowest least any has if◌then◌else◌ ◌or◌
+unfolding lowest least any has when◌then◌else◌ ◌or◌
 lowest_none = refl
 
 -- as the code finds it, in an empty word too

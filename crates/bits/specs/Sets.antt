@@ -1,5 +1,6 @@
 -- What holds of some number, of each or of some member of a word, how many it holds of, and more words that are made of words.
-use Rattle.bits.specs.Words.{ℕ, zero, suc, ◌+◌, ◌-◌, ◌≤◌, ◌<◌, ◌≡◌, Bool, true, false, not, eqb, ◌and◌, ◌or◌, ◌implies◌, if◌then◌else◌, has, all, bit, pack}
+use Rattle.std.specs.Prelude.{◌+◌, ◌-◌, ◌≤◌, ◌<◌, ◌≡◌}
+use Rattle.bits.specs.Words.{ℕ, zero, suc, Bool, true, false, not, eqb, ◌and◌, ◌or◌, ◌implies◌, when◌then◌else◌, has, all, bit, pack}
 
 infixl 55 ◌without◌
 -- f holds of some number below n: asked from 0 up, and no further than the first of which it does
@@ -46,7 +47,7 @@ size w = count 64 (has w)
 -- the least number below n of which f holds, or 0 where there is none
 unfoldable pub least : ℕ → (ℕ → Bool) → ℕ
 least zero f = 0
-least (suc n) f = if any n f then least n f else (if f n then n else 0)
+least (suc n) f = when any n f then least n f else (when f n then n else 0)
 
 -- the lowest member of w, or 0 where it is empty; and the word without that member
 unfoldable pub lowest : ℕ → ℕ

@@ -6,7 +6,7 @@ pub use mathlib.Core.List.{List, [], ◌∷◌, ◌++◌, Memᴰ as List-as-Mem�
 infixr 35 ◌and◌
 infixr 30 ◌or◌
 infixr 25 ◌implies◌
-infixr 10 if◌then◌else◌
+infixr 10 when◌then◌else◌
 infixl 55 ◌with◌
 unfoldable pub ◌and◌ : Bool → Bool → Bool
 ◌and◌ true b = b
@@ -20,13 +20,13 @@ unfoldable pub ◌implies◌ : Bool → Bool → Bool
 ◌implies◌ true b = b
 ◌implies◌ false b = true
 
-unfoldable pub if◌then◌else◌ : {A : Type 0} → Bool → A → A → A
-if◌then◌else◌ true x y = x
-if◌then◌else◌ false x y = y
+unfoldable pub when◌then◌else◌ : {A : Type 0} → Bool → A → A → A
+when◌then◌else◌ true x y = x
+when◌then◌else◌ false x y = y
 
 -- f with v at i
 unfoldable pub upd : {A : Type 0} → (ℕ → A) → ℕ → A → ℕ → A
-upd f i v j = if eqb j i then v else f j
+upd f i v j = when eqb j i then v else f j
 
 -- the number i is a member of the word w: the bit worth 2 ^ i is set
 unfoldable pub has : ℕ → ℕ → Bool

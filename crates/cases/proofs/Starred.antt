@@ -5,7 +5,7 @@ use mathlib.Core.Path.{◌≡◌, refl, sym, ap, subst, ◌∙◌}
 use mathlib.Core.Bool.{true}
 use mathlib.Core.List.{List, [], ◌∷◌}
 use lib.ListN.{get_or}
-use Rattle.bits.specs.Words.{◌and◌, ◌or◌, ◌implies◌, if◌then◌else◌, upd, has, all, subset, bit, pack, ◌with◌, tabulate}
+use Rattle.bits.specs.Words.{◌and◌, ◌or◌, ◌implies◌, when◌then◌else◌, upd, has, all, subset, bit, pack, ◌with◌, tabulate}
 use Rattle.bits.specs.Sets.{each, any, some, overlap, ◌without◌, join}
 use Rattle.table.specs.State.{State}
 use Rattle.table.specs.Authority.{covers, authorised, may_activate, effective}
@@ -36,7 +36,7 @@ abbrev rows : List ℕ
 rows = 1 ∷ 2 ∷ 4 ∷ 10 ∷ 16 ∷ 42 ∷ 64 ∷ 128 ∷ 256 ∷ 512 ∷ 1024 ∷ 2048 ∷ 4096 ∷ 8192 ∷ 16384 ∷ 32768 ∷ 65536 ∷ 131072 ∷ 262144 ∷ 524288 ∷ 1048576 ∷ 2097152 ∷ 4194304 ∷ 8388608 ∷ 16777216 ∷ 33554432 ∷ 67108864 ∷ 134217728 ∷ 268435456 ∷ 536870912 ∷ 1073741824 ∷ 2147483648 ∷ 4294967296 ∷ 8589934592 ∷ 17179869184 ∷ 34359738368 ∷ 68719476736 ∷ 137438953472 ∷ 274877906944 ∷ 549755813888 ∷ 1099511627776 ∷ 2199023255552 ∷ 4398046511104 ∷ 8796093022208 ∷ 17592186044416 ∷ 35184372088832 ∷ 70368744177664 ∷ 140737488355328 ∷ 281474976710656 ∷ 562949953421312 ∷ 1125899906842624 ∷ 2251799813685248 ∷ 4503599627370496 ∷ 9007199254740992 ∷ 18014398509481984 ∷ 36028797018963968 ∷ 72057594037927936 ∷ 144115188075855872 ∷ 288230376151711744 ∷ 576460752303423488 ∷ 1152921504606846976 ∷ 2305843009213693952 ∷ 4611686018427387904 ∷ 9223372036854775808 ∷ []
 
 closed : closure direct ≡ rows
-unfolding direct closure through via tabulate has ◌with◌ join pack bit if◌then◌else◌ ◌and◌ ◌or◌
+unfolding direct closure through via tabulate has ◌with◌ join pack bit when◌then◌else◌ ◌and◌ ◌or◌
 closed = refl
 
 no_cycle : acyclic rows ≡ true
@@ -64,7 +64,7 @@ shows_met (compared a b w ∷ rest) S f h = (h.0, shows_met rest S f h.1)
 shows_met (holds b ∷ rest) S f h = (h.0, shows_met rest S f h.1)
 
 shown : Shows (begun rows) starred
-unfolding starred permissions fresh move stay is_code limits in_range carries_bad_pair within decode known changed playing.asked openings_fit sessions_fit pair_fits covers authorised may_activate effective fewer empty_pair upd has all any each some subset overlap bit pack ◌with◌ ◌without◌ if◌then◌else◌ ◌and◌ ◌or◌ ◌implies◌ class brands stands equal_or_above
+unfolding starred permissions fresh move stay is_code limits in_range carries_bad_pair within decode known changed playing.asked openings_fit sessions_fit pair_fits covers authorised may_activate effective fewer empty_pair upd has all any each some subset overlap bit pack ◌with◌ ◌without◌ when◌then◌else◌ ◌and◌ ◌or◌ ◌implies◌ class brands stands equal_or_above
 shown = (refl, (refl, (refl, (refl, (refl, (refl, (refl, (refl, (refl, (refl, (refl, (refl, (refl, (refl, (refl, (refl, (refl, (refl, (refl, (refl, (refl, (refl, (refl, (refl, tt))))))))))))))))))))))))
 
 -- ---- on the table after the set-up

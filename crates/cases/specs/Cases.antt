@@ -1,5 +1,6 @@
 -- The starred bench cases of 01, A to I, as a single table, and the claim that every row of it is met in sequence.
-use Rattle.bits.specs.Words.{ℕ, ◌≡◌, Bool, true, List, [], ◌∷◌, eqb, leb, length, ◌implies◌, if◌then◌else◌, all, tabulate}
+use Rattle.std.specs.Prelude.{◌≡◌, ◌∷◌}
+use Rattle.bits.specs.Words.{ℕ, Bool, true, List, [], eqb, leb, length, ◌implies◌, when◌then◌else◌, all, tabulate}
 use Rattle.table.specs.Table.{table_length}
 use Rattle.requests.specs.Request.{Ask, ask}
 use Rattle.rbac.specs.Guard.{role_step}
@@ -16,7 +17,7 @@ pub data Row : Type 0 where
 
 -- role 5 above 3, 3 above 1; only (0, 9) a permission
 unfoldable pub direct : List ℕ
-direct = tabulate 64 (λ r. if eqb r 5 then 8 else (if eqb r 3 then 2 else 0))
+direct = tabulate 64 (λ r. when eqb r 5 then 8 else (when eqb r 3 then 2 else 0))
 
 unfoldable pub permissions : List ℕ
 permissions = 512 ∷ 0 ∷ 0 ∷ 0 ∷ 0 ∷ 0 ∷ 0 ∷ 0 ∷ []
@@ -61,7 +62,7 @@ starred =
 
 -- 01: a role request answered yes or no spends 1, a refusal 0
 unfoldable pub spent_on : ℕ → ℕ
-spent_on answer = if leb answer 1 then 1 else 0
+spent_on answer = when leb answer 1 then 1 else 0
 
 -- every row is met, in sequence from the table on
 abbrev pub Met : List ℕ → List Row → Type 0

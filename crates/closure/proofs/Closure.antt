@@ -10,7 +10,7 @@ use lib.Dec.{eqb}
 use lib.ListN.{length, get_or}
 use lib.Seq.{ext_get_or}
 use borrow.Author.Tests.{eqb-true, eqb-false}
-use Rattle.bits.specs.Words.{◌and◌, ◌or◌, if◌then◌else◌, has, ◌with◌, tabulate}
+use Rattle.bits.specs.Words.{◌and◌, ◌or◌, when◌then◌else◌, has, ◌with◌, tabulate}
 use Rattle.bits.specs.Sets.{◌without◌, join}
 use Rattle.bits.proofs.Truth.{by_truth, is_false, and_intro, and_left, and_right, or_left, or_right, or_elim, or_false, true_and, false_and, if_true, if_false}
 use Rattle.bits.proofs.Word.{same_members, without_keeps, has_join, join_lt, with_lt, with_new, with_old, with_elim, without_with}
@@ -139,7 +139,7 @@ module _ (direct : List ℕ) where
 
 -- row r once k was gone through
 abbrev pub passed : List ℕ → ℕ → ℕ → ℕ
-passed rows k r = if has (get_or rows r 0) k then join (get_or rows r 0) (get_or rows k 0) else get_or rows r 0
+passed rows k r = when has (get_or rows r 0) k then join (get_or rows r 0) (get_or rows k 0) else get_or rows r 0
 
 -- one role more
 pub through_more : {rows rows' : List ℕ} (first : List ℕ) (k : ℕ) → rows ≡ through k first → rows' ≡ via k rows → rows' ≡ through (k + 1) first

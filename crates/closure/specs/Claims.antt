@@ -1,6 +1,6 @@
 -- What is claimed of the closure. proofs/Claims.antt proves it.
-use Rattle.std.specs.Prelude.{◌↔◌}
-use Rattle.bits.specs.Words.{ℕ, ◌<◌, ◌≡◌, true, List, get_or, has}
+use Rattle.std.specs.Prelude.{◌↔◌, ◌<◌, ◌≡◌}
+use Rattle.bits.specs.Words.{ℕ, true, List, get_or, has}
 use Rattle.closure.specs.Closure.{closure, Reaches}
 
 -- Which roles does the closure put below a role? Exactly those that a chain of direct juniors reaches.

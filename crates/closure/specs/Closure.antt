@@ -1,12 +1,13 @@
 -- The reflexive, transitive closure of 64 words of direct juniors, worked out by Warshall's way. What it is, the roles that
 -- a chain of links reaches, is `Reaches`; Claims says that the two are the same.
-use Rattle.bits.specs.Words.{ℕ, zero, suc, ◌<◌, ◌≡◌, Bool, true, List, eqb, get_or, ◌implies◌, if◌then◌else◌, has, all, ◌with◌, tabulate}
+use Rattle.std.specs.Prelude.{◌<◌, ◌≡◌}
+use Rattle.bits.specs.Words.{ℕ, zero, suc, Bool, true, List, eqb, get_or, ◌implies◌, when◌then◌else◌, has, all, ◌with◌, tabulate}
 use Rattle.bits.specs.Sets.{each, join}
 
 -- every role that has k has what k has
 unfoldable pub via : ℕ → List ℕ → List ℕ
 via k rows =
-    tabulate 64 (λ r. if has (get_or rows r 0) k then join (get_or rows r 0) (get_or rows k 0) else get_or rows r 0)
+    tabulate 64 (λ r. when has (get_or rows r 0) k then join (get_or rows r 0) (get_or rows k 0) else get_or rows r 0)
 
 -- by way of the roles below n
 unfoldable pub through : ℕ → List ℕ → List ℕ

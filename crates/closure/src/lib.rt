@@ -2,13 +2,13 @@
 #![tactic(auto)]
 
 ghost use Rattle.std.specs.Prelude.{◌≡◌, ◌<◌, length, get_or, eqb};
-ghost use Rattle.bits.specs.Words.{◌implies◌, if◌then◌else◌, has};
+ghost use Rattle.bits.specs.Words.{◌implies◌, when◌then◌else◌, has};
 ghost use Rattle.bits.specs.Sets.{each, join};
 ghost use Rattle.closure.specs.Closure.{via, closure, acyclic};
 
 // The row of a role that gets what is below k where it has k.
 fn passed_row(row: u64, below: u64, k: usize) -> u64
-    ensures { result ≡ if◌then◌else◌ (has row k) (join row below) row }
+    ensures { result ≡ when◌then◌else◌ (has row k) (join row below) row }
 {
     if bits::has(row, k) {
         return bits::join(row, below);

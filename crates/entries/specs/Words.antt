@@ -1,5 +1,5 @@
 -- The words of each mode with their numbers of fields, and where a line may stand: refusals 10 and 11 of 01.
-use Rattle.bits.specs.Words.{ℕ, eqb, if◌then◌else◌}
+use Rattle.bits.specs.Words.{ℕ, eqb, when◌then◌else◌}
 use Rattle.reader.specs.declared.Word.{Word}
 use Rattle.reader.specs.declared.Word.TheVariants.{Roles, Lattice, Above, Permit, Clear, Label, Run, Open, Close, Start, End, Activate, Drop, Assign, Deassign, Grant, Revoke, Reclear}
 use Rattle.reader.specs.declared.Fields.{Fields}
@@ -23,7 +23,7 @@ use Rattle.entries.specs.declared.Numbers.{Numbers}
 
 -- the item of a word that takes k fields, on a line with n
 unfoldable pub taking : ℕ → Item → ℕ → Item
-taking k i n = if eqb n k then i else Malformed
+taking k i n = when eqb n k then i else Malformed
 
 -- the words of `roles`; requests by their codes, start with its roles as third field (02, S-1)
 unfoldable pub role_item : Word → ℕ → Item

@@ -1,6 +1,7 @@
 -- What comes of a block of input, and of all of it. What a system call did with the bytes that it was given, or which it gave,
 -- no contract can say.
-use Rattle.bits.specs.Words.{ℕ, ◌≡◌, Bool, true, List, tabulate}
+use Rattle.std.specs.Prelude.{◌≡◌}
+use Rattle.bits.specs.Words.{ℕ, Bool, true, List, tabulate}
 use Rattle.table.specs.Table.{table_length}
 use Rattle.ledger.specs.Step.{unguarded}
 use Rattle.transcript.specs.Stream.{Standing, after}

@@ -5,7 +5,7 @@ use mathlib.Core.List.{List, [], ◌∷◌}
 use lib.ListN.{get_or}
 use mathlib.Core.Bool.{Bool, not}
 use lib.Dec.{eqb}
-use Rattle.bits.specs.Words.{◌and◌, ◌implies◌, if◌then◌else◌, has, all, subset, bit, pack, tabulate}
+use Rattle.bits.specs.Words.{◌and◌, ◌implies◌, when◌then◌else◌, has, all, subset, bit, pack, tabulate}
 use Rattle.bits.specs.Sets.{◌without◌}
 use Rattle.bits.proofs.Word.{has_pack, pack_cong}
 use Rattle.bits.proofs.Tabulate.{get_d_tabulate}
@@ -26,7 +26,7 @@ rows = 0 ∷ 1 ∷ 1 ∷ 7 ∷ 1 ∷ 19 ∷ 21 ∷ 127 ∷ 1 ∷ 259 ∷ 261 ∷
 
 -- worked out
 rows_are : rows ≡ tabulate 64 linked
-unfolding tabulate pack bit above if◌then◌else◌ ◌and◌ ◌implies◌ stands equal_or_above class brands subset all has
+unfolding tabulate pack bit above when◌then◌else◌ ◌and◌ ◌implies◌ stands equal_or_above class brands subset all has
 rows_are = refl
 
 pub row_is : (r : ℕ) → r < 64 → get_or rows r 0 ≡ linked r

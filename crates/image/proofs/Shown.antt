@@ -5,7 +5,7 @@ use mathlib.Core.Bool.{true}
 use native.Mathlib.Omega.{arith}
 use lib.Dec.{eqb, ltb}
 use borrow.Author.Tests.{ne_eqb, eqb-true, lt-ltb, ltb-true, ltb-false}
-use Rattle.bits.specs.Words.{◌and◌, if◌then◌else◌, has, pack}
+use Rattle.bits.specs.Words.{◌and◌, when◌then◌else◌, has, pack}
 use Rattle.bits.specs.Sets.{◌without◌}
 use Rattle.bits.proofs.Truth.{clash, by_truth, is_false, same_truth, and_intro, and_left, and_right, true_and, false_and}
 use Rattle.bits.proofs.Below.{all_intro}
@@ -113,7 +113,7 @@ module _ (m : Machine) where
     -- what the machine lets a session open is effective for it
     opens_back : (s o : ℕ) → s < 32 → o < 64 → (k : Seat) → m.seat s ≡ k → (x : ℕ) → x < 2 → may_open k (m.label o) x ≡ true
         → effective (shown m) s x o ≡ true
-    unfolding may_open if◌then◌else◌
+    unfolding may_open when◌then◌else◌
     opens_back s o hs ho machine.idle e x hx a = clash a refl
     opens_back s o hs ho (at u y) e zero hx a =
         let hy : y < 32 = (g.seats s u y hs e).1 in
@@ -148,7 +148,7 @@ module _ (m : Machine) where
     -- and nothing else is
     by_grant : (u y o r q : ℕ) → y < 32 → o < 64 → q < 64 → has (seat_roles (at u y)) r ≡ true → r < 64 → Over r q
         → (x : ℕ) → has (granted_roles (m.label o) x) q ≡ true → (x < 2) × (may_open (at u y) (m.label o) x ≡ true)
-    unfolding may_open if◌then◌else◌
+    unfolding may_open when◌then◌else◌
     by_grant u y o r q hy ho hq a hr v zero b = (omega arith, seat_elim u y r hr a (λ z. reading z v) (λ z. crossing z v))
       where
         e : q ≡ m.label o

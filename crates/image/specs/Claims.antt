@@ -1,6 +1,6 @@
 -- What is claimed of images, each as the answer to a question. proofs/Claims.antt and proofs/Beginning.antt prove them.
-use Rattle.std.specs.Prelude.{◌↔◌}
-use Rattle.bits.specs.Words.{ℕ, ◌^◌, ◌<◌, ◌≡◌, true, List, length}
+use Rattle.std.specs.Prelude.{◌↔◌, ◌^◌, ◌<◌, ◌≡◌}
+use Rattle.bits.specs.Words.{ℕ, true, List, length}
 use Rattle.table.specs.Reading.{word, state}
 use Rattle.sound.specs.Answers.{is_sound}
 use Rattle.machine.specs.Label.{stands, equal_or_above}

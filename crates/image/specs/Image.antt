@@ -1,5 +1,6 @@
 -- The image of a machine state as a role table (01, "Labels"; Osborn, Sandhu, Munawer): role l reads label l, 32 + l writes it.
-use Rattle.bits.specs.Words.{ℕ, zero, suc, ◌+◌, ◌-◌, Bool, not, List, eqb, leb, ltb, ◌and◌, if◌then◌else◌, pack, ◌with◌}
+use Rattle.std.specs.Prelude.{◌+◌, ◌-◌}
+use Rattle.bits.specs.Words.{ℕ, zero, suc, Bool, not, List, eqb, leb, ltb, ◌and◌, when◌then◌else◌, pack, ◌with◌}
 use Rattle.table.specs.State.{State}
 use Rattle.table.specs.Table.{encode}
 use Rattle.machine.specs.Label.{stands, equal_or_above}
@@ -7,7 +8,7 @@ use Rattle.machine.specs.Machine.{Machine, Seat, idle, at, may_open}
 
 -- role r is senior to role q or is q: read roles when r's label dominates q's, write roles the other way round, one of each never
 unfoldable pub above : ℕ → ℕ → Bool
-above r q = if ltb r 32 then ltb q 32 and equal_or_above (stands r q) else leb 32 q and equal_or_above (stands (q - 32) (r - 32))
+above r q = when ltb r 32 then ltb q 32 and equal_or_above (stands r q) else leb 32 q and equal_or_above (stands (q - 32) (r - 32))
 
 -- the roles of a user with clearance c, and of a session
 unfoldable pub cleared_roles : ℕ → ℕ

@@ -1,5 +1,6 @@
 -- The machine state that a table shows, and the test that a sound table is its image.
-use Rattle.bits.specs.Words.{ℕ, zero, suc, ◌%◌, ◌<◌, ◌≡◌, Bool, not, List, eqb, ◌and◌, has, all, pack}
+use Rattle.std.specs.Prelude.{◌%◌, ◌<◌, ◌≡◌}
+use Rattle.bits.specs.Words.{ℕ, zero, suc, Bool, not, List, eqb, ◌and◌, has, all, pack}
 use Rattle.bits.specs.Sets.{lowest}
 use Rattle.table.specs.State.{State}
 use Rattle.table.specs.Separation.{sets_empty}

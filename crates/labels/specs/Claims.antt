@@ -1,5 +1,6 @@
 -- What is claimed of the label layer, each as the answer to a question. proofs/Claims.antt proves them.
-use Rattle.bits.specs.Words.{ℕ, ◌≤◌, ◌≡◌, true, List}
+use Rattle.std.specs.Prelude.{◌≤◌, ◌≡◌}
+use Rattle.bits.specs.Words.{ℕ, true, List}
 use Rattle.table.specs.Reading.{state}
 use Rattle.sound.specs.Answers.{is_sound}
 use Rattle.requests.specs.Request.{Ask}

@@ -1,5 +1,6 @@
 -- The label layer of 01: each label request as role requests made on its behalf, its answer and the figure spent.
-use Rattle.bits.specs.Words.{ℕ, ◌+◌, Bool, not, List, [], ◌∷◌, eqb, length, if◌then◌else◌, ◌with◌}
+use Rattle.std.specs.Prelude.{◌+◌, ◌∷◌}
+use Rattle.bits.specs.Words.{ℕ, Bool, not, List, [], eqb, length, when◌then◌else◌, ◌with◌}
 use Rattle.table.specs.Sound.{sound}
 use Rattle.table.specs.Table.{is_table}
 use Rattle.table.specs.Reading.{state}
@@ -24,8 +25,8 @@ single guard t q = record { answer = (guard t q).answer; requests = q ∷ [] }
 -- nothing where c is the clearance old already; else assign c and deassign old, and after a no deassign c
 unfoldable pub reclear_plan : ℕ → Bool → ℕ → ℕ → Plan
 reclear_plan old deassigned u c =
-    if eqb old c then record { answer = 1; requests = [] } else
-    if not deassigned then record { answer = 0; requests = ask 7 u c 0 ∷ ask 8 u old 0 ∷ ask 8 u c 0 ∷ [] } else
+    when eqb old c then record { answer = 1; requests = [] } else
+    when not deassigned then record { answer = 0; requests = ask 7 u c 0 ∷ ask 8 u old 0 ∷ ask 8 u c 0 ∷ [] } else
     record { answer = 1; requests = ask 7 u c 0 ∷ ask 8 u old 0 ∷ [] }
 
 -- the role guard answers yes
@@ -54,18 +55,18 @@ carry_out guard t p = record { answer = p.answer; spent = length p.requests; sta
 -- refusals 15 and 16, then the translation
 unfoldable pub translated : RoleGuard → List ℕ → Ask → Outcome (List ℕ)
 translated guard t q =
-    if not (is_code q) then refuse 15 t else
-    if not (in_range q) then refuse 16 t else
+    when not (is_code q) then refuse 15 t else
+    when not (in_range q) then refuse 16 t else
     carry_out guard t (plan guard t (decode q))
 
 -- a label request: its answer, what it spent, and the table after it
 unfoldable pub label_step : List ℕ → Ask → Outcome (List ℕ)
 label_step t q =
-    if not (is_table t) then refuse 12 t else
-    if not (sound (state t)) then refuse 13 t else
-    if not (is_image (state t)) then refuse 14 t else
+    when not (is_table t) then refuse 12 t else
+    when not (sound (state t)) then refuse 13 t else
+    when not (is_image (state t)) then refuse 14 t else
     translated role_step t q
 
 -- a label request without the tests of soundness and image: on a sound image it is `label_step` (Claims)
 unfoldable pub image_step : List ℕ → Ask → Outcome (List ℕ)
-image_step t q = if not (is_table t) then refuse 12 t else translated sound_step t q
+image_step t q = when not (is_table t) then refuse 12 t else translated sound_step t q

@@ -1,5 +1,6 @@
 -- What a label request answers, in 01's numbers. `Replied` serves the contracts of the private functions.
-use Rattle.bits.specs.Words.{ℕ, ◌≡◌, List}
+use Rattle.std.specs.Prelude.{◌≡◌}
+use Rattle.bits.specs.Words.{ℕ, List}
 use Rattle.requests.specs.Request.{Outcome}
 use Rattle.requests.specs.Answer.{number_of}
 use Rattle.labels.specs.declared.LabelAnswer.{LabelAnswer}

@@ -6,7 +6,7 @@ use mathlib.Core.List.{List}
 use native.Mathlib.Omega.{arith}
 use lib.Dec.{leb}
 use borrow.Author.Tests.{eqb-true, ne_eqb}
-use Rattle.bits.specs.Words.{◌and◌, if◌then◌else◌}
+use Rattle.bits.specs.Words.{◌and◌, when◌then◌else◌}
 use Rattle.bits.proofs.Truth.{if_false, by_if}
 use Rattle.requests.specs.Request.{Ask, ask, Outcome, refuse, accept}
 use Rattle.rbac.specs.Guard.{role_step}
@@ -123,7 +123,7 @@ line_same d l h = due_same d (due_of d.phase l) h (due_fits d.phase l)
 
 -- ---- a refused line
 
-chosen_leaves : (b : Bool) (l k : List ℕ) → Leaves l (if not b then refuse 19 l else accept k)
+chosen_leaves : (b : Bool) (l k : List ℕ) → Leaves l (when not b then refuse 19 l else accept k)
 chosen_leaves b l k = by_if (Leaves l) (not b) (λ e h. (refl, refl)) (λ e h. absurd (omega arith))
 
 added_refused : (l : List ℕ) (last i v : ℕ) → Leaves l (added l last i v)

@@ -1,5 +1,6 @@
 -- What is claimed of a transcript's lines, each as the answer to a question. proofs/Claims.antt and proofs/Showing.antt prove them.
-use Rattle.bits.specs.Words.{ℕ, ◌<◌, ◌≡◌, Bool, true, List, eqb, leb, length, ◌or◌}
+use Rattle.std.specs.Prelude.{◌<◌, ◌≡◌}
+use Rattle.bits.specs.Words.{ℕ, Bool, true, List, eqb, leb, length, ◌or◌}
 use Rattle.table.specs.Table.{is_table}
 use Rattle.sound.specs.Answers.{is_sound}
 use Rattle.image.specs.SetUp.{are_labels}

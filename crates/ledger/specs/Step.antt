@@ -1,5 +1,5 @@
 -- What a line of a transcript comes to: its answer, what it spends, and what is kept after it.
-use Rattle.bits.specs.Words.{ℕ, List, eqb, if◌then◌else◌}
+use Rattle.bits.specs.Words.{ℕ, List, eqb, when◌then◌else◌}
 use Rattle.requests.specs.Request.{Ask, ask, Outcome, refuse, accept}
 use Rattle.rbac.specs.Guard.{role_step, sound_step}
 use Rattle.setup.specs.SetUp.{role_set_up}
@@ -57,7 +57,7 @@ put d Labels o l = lifted (with_labels d) (stored d.labels o l)
 
 -- the phase after `run` with an answer: an accepted one ends the set-up, a refused one does not
 unfoldable pub phase_after : Mode → ℕ → Phase
-phase_after m answer = if eqb answer 1 then Running m else SettingUp m
+phase_after m answer = when eqb answer 1 then Running m else SettingUp m
 
 -- `run`, with what the set-up came to
 unfoldable pub ran : Store → Mode → Outcome (List ℕ) → Outcome Store

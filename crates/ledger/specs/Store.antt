@@ -1,6 +1,6 @@
 -- What a transcript keeps from line to line, and how a set-up line changes a list.
-use Rattle.bits.specs.Words.{ℕ, ◌≡◌, not, List, leb, get_or, ◌and◌, if◌then◌else◌, ◌with◌}
-use Rattle.std.specs.Prelude.{set}
+use Rattle.bits.specs.Words.{ℕ, not, List, leb, get_or, ◌and◌, when◌then◌else◌, ◌with◌}
+use Rattle.std.specs.Prelude.{set, ◌≡◌}
 use Rattle.requests.specs.Request.{Outcome, refuse, accept}
 use Rattle.entries.specs.declared.Phase.{Phase}
 
@@ -46,13 +46,13 @@ with_labels d l = store d.phase d.table d.juniors d.permissions d.clearances l
 -- the member v, 63 at most, is put into word i, last at most, of a list that has it, and a shorter one stays; other values get 19
 unfoldable pub added : List ℕ → ℕ → ℕ → ℕ → Outcome (List ℕ)
 added list last i v =
-    if not (leb i last and leb v 63) then refuse 19 list else
+    when not (leb i last and leb v 63) then refuse 19 list else
     accept (set list i (get_or list i 0 with v))
 
 -- the label v, 31 at most, is stored at place i, 63 at most, of a list that has it, and a shorter one stays; other values get 19
 unfoldable pub stored : List ℕ → ℕ → ℕ → Outcome (List ℕ)
 stored list i v =
-    if not (leb i 63 and leb v 31) then refuse 19 list else
+    when not (leb i 63 and leb v 31) then refuse 19 list else
     accept (set list i v)
 
 -- the list l, the answer n and the figure spent are those of an outcome

@@ -1,7 +1,7 @@
 -- Lines read from blocks of input: what comes of bytes from a place on, a byte at a time. The code reads a usual line faster, to
 -- the same end.
-use Rattle.bits.specs.Words.{ℕ, ◌+◌, ◌≡◌, true, false, List, [], ◌∷◌, eqb, if◌then◌else◌}
-use Rattle.std.specs.Prelude.{drop}
+use Rattle.bits.specs.Words.{ℕ, true, false, List, [], eqb, when◌then◌else◌}
+use Rattle.std.specs.Prelude.{drop, ◌+◌, ◌≡◌, ◌∷◌}
 use Rattle.reader.specs.Bytes.{newline}
 use Rattle.reader.specs.Reader.{step_of}
 use Rattle.reader.specs.declared.Word.{Word}
@@ -13,7 +13,7 @@ use Rattle.lines.specs.declared.Fed.{Fed}
 -- bytes from a place of a block on: the line is whole at the first newline, or the block is used up
 unfoldable pub fed : Reader → List ℕ → ℕ → Fed
 fed s [] at = record { whole = false; reader = s; next = at }
-fed s (b ∷ l) at = if eqb b newline then record { whole = true; reader = s; next = at + 1 } else fed (step_of s b) l (at + 1)
+fed s (b ∷ l) at = when eqb b newline then record { whole = true; reader = s; next = at + 1 } else fed (step_of s b) l (at + 1)
 
 -- ---- for the functions that read a usual line
 

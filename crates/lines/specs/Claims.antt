@@ -1,6 +1,7 @@
 -- What is claimed of lines read from blocks, each as the answer to a question. proofs/Claims.antt proves them. The contract of
 -- feed says that the code does what fed says, so that what is claimed of fed holds whatever way through the code a piece takes.
-use Rattle.bits.specs.Words.{ℕ, ◌+◌, ◌≡◌, Bool, true, false, List, [], ◌∷◌, ◌++◌, eqb, not, length}
+use Rattle.std.specs.Prelude.{◌+◌, ◌≡◌, ◌∷◌, ◌++◌}
+use Rattle.bits.specs.Words.{ℕ, Bool, true, false, List, [], eqb, not, length}
 use Rattle.reader.specs.Bytes.{newline, every}
 use Rattle.reader.specs.Line.{line}
 use Rattle.reader.specs.Reader.{finished, steps}

@@ -7,7 +7,7 @@ use native.Mathlib.Nat.{zero-add, le_of_suc-le-suc}
 use lib.Dec.{eqb, ltb}
 use lib.ListN.{length, get_or}
 use borrow.Author.Tests.{eq-eqb, ne_eqb, lt-ltb, le-ltb}
-use Rattle.bits.specs.Words.{◌and◌, if◌then◌else◌, has, tabulate, upd, ◌with◌}
+use Rattle.bits.specs.Words.{◌and◌, when◌then◌else◌, has, tabulate, upd, ◌with◌}
 use Rattle.bits.specs.Sets.{◌without◌}
 use Rattle.bits.proofs.Truth.{not_intro, true_and, false_and, and_false, and_assoc, if_true, if_false}
 use Rattle.bits.proofs.Tabulate.{get_d_tabulate}
@@ -86,17 +86,17 @@ module _ (t : List ℕ) (e : length t ≡ table_length) (r q : ℕ) (hr : r < 64
   unfolding may_link
   link_told a = a ∙ on_table_lem t r q e (le_of_suc-le-suc hr) (le_of_suc-le-suc hq)
 
-  pub link_leaves : {t' : List ℕ} → b ≡ may_link t r q → t' ≡ after_link t r q → t' ≡ (if b then encode (refreshed (with_direct (state t) r ((state t).direct r with q))) else t)
+  pub link_leaves : {t' : List ℕ} → b ≡ may_link t r q → t' ≡ after_link t r q → t' ≡ (when b then encode (refreshed (with_direct (state t) r ((state t).direct r with q))) else t)
   unfolding after_link relinked
-  link_leaves a k = k ∙ ap (λ (c : Bool). if c then encode (refreshed (with_direct (state t) r ((state t).direct r with q))) else t) (sym a)
+  link_leaves a k = k ∙ ap (λ (c : Bool). when c then encode (refreshed (with_direct (state t) r ((state t).direct r with q))) else t) (sym a)
 
   pub unlink_told : b ≡ may_unlink t r q → b ≡ unlinkable (state t) r q
   unfolding may_unlink
   unlink_told a = a ∙ on_table_lem t r q e (le_of_suc-le-suc hr) (le_of_suc-le-suc hq)
 
-  pub unlink_leaves : {t' : List ℕ} → b ≡ may_unlink t r q → t' ≡ after_unlink t r q → t' ≡ (if b then encode (refreshed (with_direct (state t) r ((state t).direct r without q))) else t)
+  pub unlink_leaves : {t' : List ℕ} → b ≡ may_unlink t r q → t' ≡ after_unlink t r q → t' ≡ (when b then encode (refreshed (with_direct (state t) r ((state t).direct r without q))) else t)
   unfolding after_unlink relinked
-  unlink_leaves a k = k ∙ ap (λ (c : Bool). if c then encode (refreshed (with_direct (state t) r ((state t).direct r without q))) else t) (sym a)
+  unlink_leaves a k = k ∙ ap (λ (c : Bool). when c then encode (refreshed (with_direct (state t) r ((state t).direct r without q))) else t) (sym a)
 
 -- the two clauses of a contract
 module _ {t' : List ℕ} (t : List ℕ) (r w : ℕ) {b : Bool} where

@@ -1,7 +1,7 @@
 -- Change of seniority at work (02, S-5): a link from role r to the direct junior q is made, or taken away, and the juniors of
 -- all roles follow (`with_direct`). The answers are those on a table that is known to be sound, where only a part of soundness
 -- can break.
-use Rattle.bits.specs.Words.{ℕ, Bool, not, List, eqb, ltb, ◌and◌, if◌then◌else◌, has, ◌with◌}
+use Rattle.bits.specs.Words.{ℕ, Bool, not, List, eqb, ltb, ◌and◌, when◌then◌else◌, has, ◌with◌}
 use Rattle.bits.specs.Sets.{◌without◌}
 use Rattle.table.specs.State.{State}
 use Rattle.table.specs.Authority.{senior}
@@ -28,7 +28,7 @@ on_table t r q answer = is_table t and ltb r 64 and ltb q 64 and answer
 
 -- after a yes role r has these direct juniors, and all masks are worked out anew (02, S-6); after a no the list is as it came
 unfoldable pub relinked : List ℕ → ℕ → ℕ → Bool → List ℕ
-relinked t r direct answer = if answer then encode (refreshed (with_direct (state t) r direct)) else t
+relinked t r direct answer = when answer then encode (refreshed (with_direct (state t) r direct)) else t
 
 unfoldable pub may_link : List ℕ → ℕ → ℕ → Bool
 may_link t r q = on_table t r q (linkable (state t) r q)

@@ -5,7 +5,7 @@ use mathlib.Core.Bool.{true, false}
 use native.Mathlib.Omega.{arith}
 use lib.Dec.{eqb, ltb}
 use borrow.Author.Tests.{eqb-true, eqb-false, ltb-true, ltb-false}
-use Rattle.bits.specs.Words.{◌and◌, ◌implies◌, if◌then◌else◌, has, all, subset}
+use Rattle.bits.specs.Words.{◌and◌, ◌implies◌, when◌then◌else◌, has, all, subset}
 use Rattle.bits.proofs.Truth.{clash, by_truth, is_false}
 use Rattle.bits.proofs.Below.{all_elim}
 use Rattle.bits.proofs.Word.{has_past}
@@ -90,11 +90,11 @@ partial_order = record {
 
 -- by working it out for all labels
 top_row : all 32 (λ a. dominates 31 a) ≡ true
-unfolding all ◌and◌ if◌then◌else◌ stands equal_or_above class brands subset ◌implies◌ has
+unfolding all ◌and◌ when◌then◌else◌ stands equal_or_above class brands subset ◌implies◌ has
 top_row = refl
 
 pub case_I : CaseI
-unfolding all ◌and◌ if◌then◌else◌ stands equal_or_above class brands subset ◌implies◌ has
+unfolding all ◌and◌ when◌then◌else◌ stands equal_or_above class brands subset ◌implies◌ has
 case_I = record {
   apart = refl;
   top = λ a h. all_elim (λ a. dominates 31 a) 32 top_row a h;

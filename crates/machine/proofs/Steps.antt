@@ -6,7 +6,7 @@ use native.Mathlib.Nat.{le_of_suc-le-suc}
 use native.Mathlib.Omega.{arith}
 use lib.Dec.{eqb}
 use borrow.Author.Tests.{leb-true}
-use Rattle.bits.specs.Words.{◌and◌, if◌then◌else◌, all}
+use Rattle.bits.specs.Words.{◌and◌, when◌then◌else◌, all}
 use Rattle.bits.proofs.Truth.{by_truth, and_intro, and_left, and_right, past, stopped}
 use Rattle.requests.specs.Request.{Ask, ask, Outcome, refuse, decide}
 use Rattle.requests.proofs.Outcome.{decide_yes, decide_no}
@@ -160,9 +160,9 @@ module _ (m : Machine) where
 
   pub act_reclearing : (u c : ℕ)
       → act m (reclearing u c)
-      ≡ decide (all 32 (λ s. fits u c (m.seat s))) (if eqb (m.clearance u) c then 0 else 2) (if eqb (m.clearance u) c then 0 else 3)
+      ≡ decide (all 32 (λ s. fits u c (m.seat s))) (when eqb (m.clearance u) c then 0 else 2) (when eqb (m.clearance u) c then 0 else 3)
       (with_clearance m u c) m
-  unfolding act allowed figure next if◌then◌else◌
+  unfolding act allowed figure next when◌then◌else◌
   act_reclearing u c = refl
 
 -- ---- a yes, as it is asked for

@@ -8,7 +8,7 @@ use mathlib.Core.List.{List, [], ◌∷◌, Memᴰ}
 use native.Mathlib.Omega.{arith}
 use lib.Dec.{eqb}
 use borrow.Author.Tests.{eq-eqb, eqb-true}
-use Rattle.bits.specs.Words.{◌and◌, if◌then◌else◌}
+use Rattle.bits.specs.Words.{◌and◌, when◌then◌else◌}
 use Rattle.bits.proofs.Truth.{clash, and_intro, and_left, and_right}
 use Rattle.bits.proofs.Upd.{upd_same, upd_other}
 use Rattle.requests.specs.Request.{Ask, Outcome}
@@ -89,7 +89,7 @@ opens_here m q s u y o x n e p =
 -- what a life opens fits its level
 in_life : (s u y o x n : ℕ) (m : Machine) (qs : List Ask) → m.seat s ≡ at u y
     → Memᴰ (opened s o x n) (up_to_end s (trace step m qs)) → may_open (at u y) (m.label o) x ≡ true
-unfolding up_to_end trace if◌then◌else◌
+unfolding up_to_end trace when◌then◌else◌
 in_life s u y o x n m [] e h = absurd (Memᴰ.not-nil h)
 in_life s u y o x n m (q ∷ qs) e h = go (λ e'. in_life s u y o x n (step m q).state qs e') (yes_to 4 s (event q (step m q))) refl h
   where
@@ -97,7 +97,7 @@ in_life s u y o x n m (q ∷ qs) e h = go (λ e'. in_life s u y o x n (step m q)
     rest = up_to_end s (trace step (step m q).state qs)
 
     go : ((step m q).state.seat s ≡ at u y → Memᴰ (opened s o x n) rest → may_open (at u y) ((step m q).state.label o) x ≡ true)
-        → (b : Bool) → yes_to 4 s (event q (step m q)) ≡ b → Memᴰ (opened s o x n) (if b then [] else event q (step m q) ∷ rest)
+        → (b : Bool) → yes_to 4 s (event q (step m q)) ≡ b → Memᴰ (opened s o x n) (when b then [] else event q (step m q) ∷ rest)
         → may_open (at u y) (m.label o) x ≡ true
     go below true b k = absurd (Memᴰ.not-nil k)
     go below false b (Memᴰ.head p) = opens_here m q s u y o x n e p
@@ -118,7 +118,7 @@ started s m q h =
     rw (← a) (start_yes m q (cases m q) (eqb-true _ _ (and_left _ _ h)) (eqb-true _ _ (and_right _ _ k)))
 
 life_level : (s : ℕ) (m : Machine) (qs : List Ask) (life : List Event) → Memᴰ life (lives s (trace step m qs)) → Level m.label s life
-unfolding lives trace if◌then◌else◌
+unfolding lives trace when◌then◌else◌
 life_level s m [] life h = absurd (Memᴰ.not-nil h)
 life_level s m (q ∷ qs) life h =
     rw (label_fixed m q (cases m q)) at (go (life_level s (step m q).state qs life) (yes_to 3 s (event q (step m q))) refl h)
@@ -130,7 +130,7 @@ life_level s m (q ∷ qs) life h =
     es = trace step after qs
 
     go : (Memᴰ life (lives s es) → Level after.label s life)
-        → (b : Bool) → yes_to 3 s (event q (step m q)) ≡ b → Memᴰ life (if b then up_to_end s es ∷ lives s es else lives s es)
+        → (b : Bool) → yes_to 3 s (event q (step m q)) ≡ b → Memᴰ life (when b then up_to_end s es ∷ lives s es else lives s es)
         → Level after.label s life
     go below true b (Memᴰ.head p) = record {
       user = q.b;
@@ -143,7 +143,7 @@ life_level s m (q ∷ qs) life h =
 -- ---- the chain
 
 pub walled : Walled
-unfolding may_open if◌then◌else◌
+unfolding may_open when◌then◌else◌
 walled m qs c d same = dominates_refl (m.label c)
 walled m qs c d (through {e = e} {i = i} {j = j} h s life k r w) =
     let l = life_level s m qs life k in

@@ -1,6 +1,6 @@
 -- What is claimed of labels and of the machine, each as the answer to a question. proofs/Claims.antt and proofs/Wall.antt prove them.
-use Rattle.std.specs.Prelude.{◌↔◌}
-use Rattle.bits.specs.Words.{ℕ, ◌≤◌, ◌<◌, ◌≡◌, true, List, has}
+use Rattle.std.specs.Prelude.{◌↔◌, ◌≤◌, ◌<◌, ◌≡◌}
+use Rattle.bits.specs.Words.{ℕ, true, List, has}
 use Rattle.requests.specs.Request.{Ask}
 use Rattle.machine.specs.declared.Standing.{Standing}
 use Rattle.machine.specs.declared.Standing.TheVariants.{Equal, Above, Below, Apart}

@@ -1,5 +1,6 @@
 -- The Bell-LaPadula machine of 01 ("Labels"). Users and objects are 0 to 63, sessions and labels 0 to 31, modes 0 and 1.
-use Rattle.bits.specs.Words.{ℕ, ◌-◌, Bool, true, false, not, List, [], ◌∷◌, eqb, leb, get_or, ◌and◌, ◌implies◌, if◌then◌else◌, upd, all}
+use Rattle.std.specs.Prelude.{◌-◌, ◌∷◌}
+use Rattle.bits.specs.Words.{ℕ, Bool, true, false, not, List, [], eqb, leb, get_or, ◌and◌, ◌implies◌, when◌then◌else◌, upd, all}
 use Rattle.requests.specs.Request.{Ask, Outcome, refuse, decide, within}
 use Rattle.machine.specs.Label.{stands, equal_or_above}
 
@@ -49,7 +50,7 @@ is_idle (at u y) = false
 -- a session may open an object of label l: mode 0 reads what its level dominates, 1 writes what dominates it, without reading
 unfoldable pub may_open : Seat → ℕ → ℕ → Bool
 may_open idle l x = false
-may_open (at u y) l x = if eqb x 0 then equal_or_above (stands y l) else equal_or_above (stands l y)
+may_open (at u y) l x = when eqb x 0 then equal_or_above (stands y l) else equal_or_above (stands l y)
 
 -- c dominates the level of the session, if it is one of user u
 unfoldable pub fits : ℕ → ℕ → Seat → Bool
@@ -72,7 +73,7 @@ abbrev pub with_openings : Machine → ℕ → (ℕ → ℕ → Bool) → Machin
 with_openings m s f = record { clearance = m.clearance; label = m.label; seat = m.seat; held = upd m.held s f }
 
 abbrev pub with_held : Machine → ℕ → ℕ → ℕ → Bool → Machine
-with_held m s o x b = with_openings m s (λ q y. if eqb q o and eqb y x then b else m.held s q y)
+with_held m s o x b = with_openings m s (λ q y. when eqb q o and eqb y x then b else m.held s q y)
 
 abbrev pub with_clearance : Machine → ℕ → ℕ → Machine
 with_clearance m u c = record { clearance = upd m.clearance u c; label = m.label; seat = m.seat; held = m.held }
@@ -91,7 +92,7 @@ figure m (opening s o x) b = 1
 figure m (closing s o x) b = 1
 figure m (starting s u y) b = 1
 figure m (ending s) b = 1
-figure m (reclearing u c) b = if eqb (m.clearance u) c then 0 else (if b then 2 else 3)
+figure m (reclearing u c) b = when eqb (m.clearance u) c then 0 else (when b then 2 else 3)
 
 unfoldable pub act : Machine → Request → Outcome Machine
 act m r = decide (allowed m r) (figure m r true) (figure m r false) (next m r) m
@@ -99,6 +100,6 @@ act m r = decide (allowed m r) (figure m r true) (figure m r false) (next m r) m
 -- refusals 15 and 16, then the request
 unfoldable pub step : Machine → Ask → Outcome Machine
 step m q =
-    if not (is_code q) then refuse 15 m else
-    if not (in_range q) then refuse 16 m else
+    when not (is_code q) then refuse 15 m else
+    when not (in_range q) then refuse 16 m else
     act m (decode q)

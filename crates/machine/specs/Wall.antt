@@ -1,5 +1,6 @@
 -- Requests with their answers, and what the lives of sessions carry from column to column in them (01, "Labels").
-use Rattle.bits.specs.Words.{ℕ, Bool, List, [], ◌∷◌, List-as-Memᴰ, eqb, ◌and◌, if◌then◌else◌}
+use Rattle.std.specs.Prelude.{◌∷◌}
+use Rattle.bits.specs.Words.{ℕ, Bool, List, [], List-as-Memᴰ, eqb, ◌and◌, when◌then◌else◌}
 use Rattle.requests.specs.Request.{Ask, ask, Outcome}
 
 -- a request, its answer and its figure
@@ -25,12 +26,12 @@ yes_to code s e = eqb e.asked.code code and eqb e.asked.a s and eqb e.answer 1
 -- the events before the first end of s answered yes
 unfoldable pub up_to_end : ℕ → List Event → List Event
 up_to_end s [] = []
-up_to_end s (e ∷ es) = if yes_to 4 s e then [] else e ∷ up_to_end s es
+up_to_end s (e ∷ es) = when yes_to 4 s e then [] else e ∷ up_to_end s es
 
 -- the lives of s: each from a start of s answered yes to the next end of s answered yes, or to the last request
 unfoldable pub lives : ℕ → List Event → List (List Event)
 lives s [] = []
-lives s (e ∷ es) = if yes_to 3 s e then up_to_end s es ∷ lives s es else lives s es
+lives s (e ∷ es) = when yes_to 3 s e then up_to_end s es ∷ lives s es else lives s es
 
 -- yes to an opening of column o in mode x by session s, whatever it spent
 abbrev pub opened : ℕ → ℕ → ℕ → ℕ → Event

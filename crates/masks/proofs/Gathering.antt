@@ -8,7 +8,7 @@ use lib.Dec.{eqb, ltb}
 use lib.ListN.{length, get_or, set, length-set, replicate}
 use lib.Seq.{get_or-set_same, get_or-set_other}
 use borrow.Author.Tests.{eq-eqb, ne_eqb, eqb-true, eqb-false, lt-ltb, le-ltb, ltb-true, ltb-false}
-use Rattle.bits.specs.Words.{◌and◌, if◌then◌else◌, has, ◌with◌}
+use Rattle.bits.specs.Words.{◌and◌, when◌then◌else◌, has, ◌with◌}
 use Rattle.bits.specs.Sets.{IsLowest, IsRest}
 use Rattle.bits.proofs.Truth.{by_truth, and_intro, and_false, false_and, if_true, if_false}
 use Rattle.bits.proofs.Word.{has_zero}
@@ -20,7 +20,7 @@ use Rattle.masks.specs.Gathered.{own_objects, noted, gathered}
 -- ---- a loop that notes the object o at mode x of the roles of w: those of m are left
 
 abbrev placed : ℕ → ℕ → List ℕ → ℕ → ℕ → ℕ
-placed x o l roles i = if eqb (i % 8) x and has roles (i / 8) then get_or l i 0 with o else get_or l i 0
+placed x o l roles i = when eqb (i % 8) x and has roles (i / 8) then get_or l i 0 with o else get_or l i 0
 
 pub record Noting (x o : ℕ) (old : List ℕ) (w : ℕ) (out : List ℕ) (m : ℕ) : Type 0 where
   pub word : m < 2 ^ 64
@@ -61,7 +61,7 @@ module _ {x o : ℕ} {old : List ℕ} {w : ℕ} where
             by_truth (eqb (i % 8) x)
             (λ c.
             let a = eqb-true (i % 8) x c in
-            ap₂ (λ (t : Bool) (u : ℕ). if eqb (i % 8) x and t then u with o else u)
+            ap₂ (λ (t : Bool) (u : ℕ). when eqb (i % 8) x and t then u with o else u)
             (others_left k.word n e d (i / 8) (omega arith) (λ r. y (omega arith)))
             (other i y))
             (λ c. if_false _ _ (false_and _ c) ∙ other i y ∙ sym (if_false _ _ (false_and _ c))))
@@ -76,7 +76,7 @@ pub record Gathering (S : State) (x : ℕ) (out : List ℕ) (m : ℕ) : Type 0 w
   pub kept : (i : ℕ) → i < 512 → (i % 8 ≡ x → ⊥) → get_or out i 0 ≡ get_or (gathered S x) i 0
 
 module _ (S : State) where
-  gathered_at : (n i : ℕ) → i < 512 → get_or (gathered S n) i 0 ≡ if ltb (i % 8) n then own_objects S (i / 8) (i % 8) else 0
+  gathered_at : (n i : ℕ) → i < 512 → get_or (gathered S n) i 0 ≡ when ltb (i % 8) n then own_objects S (i / 8) (i % 8) else 0
   unfolding gathered
   gathered_at n i h = get_d_tabulate 512 _ 0 i h
 

@@ -7,7 +7,7 @@ use native.Mathlib.Omega.{arith}
 use lib.Dec.{ltb}
 use lib.ListN.{length, get_or, set, replicate}
 use borrow.Author.Tests.{lt-ltb, le-ltb, ltb-true, ltb-false}
-use Rattle.bits.specs.Words.{if◌then◌else◌, tabulate}
+use Rattle.bits.specs.Words.{when◌then◌else◌, tabulate}
 use Rattle.bits.proofs.Truth.{by_truth, if_true, if_false}
 use Rattle.bits.proofs.Tabulate.{length_tabulate, get_d_tabulate, tabulate_cong, Writing, write_start, write_step, write_end, zeros}
 use Rattle.table.specs.State.{State}
@@ -20,7 +20,7 @@ use Rattle.masks.specs.Gathered.{masks_below}
 
 -- the mask at the place i, where its session is below n
 abbrev mask_below : State → ℕ → ℕ → ℕ
-mask_below S n i = if ltb (i / 8) n then mask_of S (i / 8) (i % 8) else 0
+mask_below S n i = when ltb (i / 8) n then mask_of S (i / 8) (i % 8) else 0
 
 module _ (S : State) where
   -- ---- the masks of the sessions passed

@@ -7,7 +7,7 @@ use native.Mathlib.Omega.{arith}
 use lib.Dec.{ltb}
 use lib.ListN.{length, get_or, set}
 use borrow.Author.Tests.{lt-ltb, le-ltb, ltb-true, ltb-false}
-use Rattle.bits.specs.Words.{◌and◌, if◌then◌else◌, upd}
+use Rattle.bits.specs.Words.{◌and◌, when◌then◌else◌, upd}
 use Rattle.bits.specs.Sets.{overlap}
 use Rattle.bits.proofs.Truth.{by_truth, same_truth, and_intro, and_left, and_right, true_and, false_and, if_true, if_false}
 use Rattle.bits.proofs.Word.{has_pack, pack_cong, pack_none}
@@ -99,7 +99,7 @@ giving_effective S s x o =
 
 -- the sessions below i are done
 pub pairing : State → ℕ → ℕ → ℕ → State
-pairing S x o i = set_masks S (λ s. if ltb s i then upd (S.masks s) x (put (S.masks s x) o (effective S s x o)) else S.masks s)
+pairing S x o i = set_masks S (λ s. when ltb s i then upd (S.masks s) x (put (S.masks s x) o (effective S s x o)) else S.masks s)
 
 module _ (S : State) (x o : ℕ) where
   pub pairing_none : {t : List ℕ} → t ≡ encode S → t ≡ encode (pairing S x o 0)

@@ -1,5 +1,6 @@
 -- What the private functions answer and leave. No promise rests on this page.
-use Rattle.bits.specs.Words.{ℕ, ◌+◌, ◌*◌, ◌/◌, ◌%◌, ◌≡◌, List, eqb, ltb, get_or, ◌and◌, if◌then◌else◌, has, pack, ◌with◌, tabulate}
+use Rattle.std.specs.Prelude.{◌+◌, ◌*◌, ◌/◌, ◌%◌, ◌≡◌}
+use Rattle.bits.specs.Words.{ℕ, List, eqb, ltb, get_or, ◌and◌, when◌then◌else◌, has, pack, ◌with◌, tabulate}
 use Rattle.bits.specs.Sets.{some, overlap, join}
 use Rattle.table.specs.State.{State}
 use Rattle.table.specs.Authority.{permission}
@@ -12,11 +13,11 @@ own_objects S q x = pack 64 (λ o. permission S x o and has (S.granted x o) q)
 -- the list with the object o noted at mode x of each of the roles
 unfoldable pub noted : List ℕ → ℕ → ℕ → ℕ → List ℕ
 noted objects roles x o =
-    tabulate 512 (λ i. if eqb (i % 8) x and has roles (i / 8) then get_or objects i 0 with o else get_or objects i 0)
+    tabulate 512 (λ i. when eqb (i % 8) x and has roles (i / 8) then get_or objects i 0 with o else get_or objects i 0)
 
 -- the objects of each role, of the modes below n: those of role q and mode x at 8 q + x
 unfoldable pub gathered : State → ℕ → List ℕ
-gathered S n = tabulate 512 (λ i. if ltb (i % 8) n then own_objects S (i / 8) (i % 8) else 0)
+gathered S n = tabulate 512 (λ i. when ltb (i % 8) n then own_objects S (i / 8) (i % 8) else 0)
 
 -- the words of each mode joined with those of role q
 unfoldable pub with_row : List ℕ → List ℕ → ℕ → List ℕ
@@ -28,7 +29,7 @@ joined_rows objects roles = tabulate 8 (λ x. pack 64 (λ o. some roles (λ q. h
 
 -- the masks of the sessions below n, and 0 for the others
 unfoldable pub masks_below : State → ℕ → List ℕ
-masks_below S n = tabulate 256 (λ i. if ltb (i / 8) n then mask_of S (i / 8) (i % 8) else 0)
+masks_below S n = tabulate 256 (λ i. when ltb (i / 8) n then mask_of S (i / 8) (i % 8) else 0)
 
 -- what stands when the masks of session s are to be written: the objects of each role, and the masks of the sessions before it
 pub record Ready (S : State) (objects masks : List ℕ) (s : ℕ) : Type 0 where

@@ -1,5 +1,6 @@
 -- What is claimed of the output, each as the answer to a question. proofs/Claims.antt proves them.
-use Rattle.bits.specs.Words.{ℕ, ◌+◌, ◌^◌, ◌<◌, ◌≡◌, List, [], ◌∷◌, ◌++◌}
+use Rattle.std.specs.Prelude.{◌+◌, ◌^◌, ◌<◌, ◌≡◌, ◌∷◌, ◌++◌}
+use Rattle.bits.specs.Words.{ℕ, List, []}
 use Rattle.std.proofs.Math.Option.{some}
 use Rattle.reader.specs.Bytes.{newline}
 use Rattle.reader.specs.Line.{first, others, number, fields}

@@ -6,7 +6,7 @@ use mathlib.Core.List.{List}
 use lib.Dec.{eqb}
 use lib.ListN.{get_or}
 use borrow.Author.Tests.{eqb-true, eqb-false}
-use Rattle.bits.specs.Words.{if◌then◌else◌, has, pack, ◌with◌, tabulate}
+use Rattle.bits.specs.Words.{when◌then◌else◌, has, pack, ◌with◌, tabulate}
 use Rattle.bits.specs.Sets.{◌without◌}
 use Rattle.bits.proofs.Truth.{by_truth, if_true, if_false, or_left, false_or, true_and, false_and, not_intro}
 use Rattle.bits.proofs.Word.{has_pack, pack_cong, pack_is, has_with, has_without, with_lt, without_lt, with_same, without_same}
@@ -54,7 +54,7 @@ module _ (T : State) where
       (λ e. put_is (T.masks s x) o (effective T s x) ho (λ p hp n. k s x p hs hx hp (λ a b. n b)) ∙ sym (ap (λ (z : ℕ). pack 64 (effective T s z)) e))
       (h s y hs hy))
 
-either : (b : Bool) {T U W : State} → (b ≡ true → Agree T W) → (b ≡ false → Agree U W) → Agree (if b then T else U) W
+either : (b : Bool) {T U W : State} → (b ≡ true → Agree T W) → (b ≡ false → Agree U W) → Agree (when b then T else U) W
 either b {T} {U} {W} f g =
     by_truth b (λ e. subst (λ (R : State). Agree R W) (sym (if_true T U e)) (f e)) (λ e. subst (λ (R : State). Agree R W) (sym (if_false T U e)) (g e))
 

@@ -3,7 +3,7 @@ use Prim.Native.Nat.{ℕ}
 use mathlib.Core.Path.{◌≡◌, sym, ap, subst, ◌∙◌}
 use mathlib.Core.Bool.{Bool, true, not}
 use mathlib.Core.List.{List}
-use Rattle.bits.specs.Words.{if◌then◌else◌, has}
+use Rattle.bits.specs.Words.{when◌then◌else◌, has}
 use Rattle.bits.proofs.Truth.{by_truth, if_true, if_false, past, stopped}
 use Rattle.table.specs.State.{State}
 use Rattle.table.specs.Authority.{effective}
@@ -51,11 +51,11 @@ asked S (unlinks r q) = allowed_sound S (unlinks r q)
 
 unfoldable pub move : State → Ask → Move
 move S q =
-    if not (is_code q) then stay 15 S else
-    if not (in_range q) then stay 16 S else
-    if carries_bad_pair q then stay 21 S else
-    if not (known S (decode q)) then stay 17 S else
-    if not (asked S (decode q)) then stay 0 S else
+    when not (is_code q) then stay 15 S else
+    when not (in_range q) then stay 16 S else
+    when carries_bad_pair q then stay 21 S else
+    when not (known S (decode q)) then stay 17 S else
+    when not (asked S (decode q)) then stay 0 S else
     stay 1 (changed S (decode q))
 
 -- what a move stands for

@@ -9,7 +9,7 @@ use native.Mathlib.Nat.{le_of_suc-le-suc}
 use lib.Dec.{eqb}
 use lib.ListN.{get_or}
 use borrow.Author.Tests.{eqb-false, eq-eqb, ne_eqb, not-true}
-use Rattle.bits.specs.Words.{◌and◌, if◌then◌else◌, has, upd, ◌with◌}
+use Rattle.bits.specs.Words.{◌and◌, when◌then◌else◌, has, upd, ◌with◌}
 use Rattle.bits.specs.Sets.{◌without◌}
 use Rattle.bits.proofs.Truth.{clash, by_truth, is_false, not_intro, and_intro, and_left, and_right, true_and, false_and, and_false, or_left, false_or, if_true, if_false, past, stopped}
 use Rattle.bits.proofs.Word.{has_with, has_without, has_pack}
@@ -149,7 +149,7 @@ module _ (q : Ask) (n : ℕ) (old : ℕ → ℕ → Bool) (r p : ℕ) where
   noted_same : (old' : ℕ → ℕ → Bool) → old r p ≡ old' r p → noted q n old r p ≡ noted q n old' r p
   unfolding noted
   noted_same old' e =
-      ap (λ (b : Bool). if not (eqb n 1 and eqb r q.a and eqb p q.b) then b else (if eqb q.code 13 then true else (if eqb q.code 14 then false else b))) e
+      ap (λ (b : Bool). when not (eqb n 1 and eqb r q.a and eqb p q.b) then b else (when eqb q.code 13 then true else (when eqb q.code 14 then false else b))) e
 
 module _ (S : State) (a b c r p : ℕ) (hp : p < 64) where
   abbrev old : ℕ → ℕ → Bool
@@ -157,7 +157,7 @@ module _ (S : State) (a b c r p : ℕ) (hp : p < 64) where
 
   -- the word of role a is written: the request notes its pair, and no other
   module _ (k w : ℕ) (made : Bool)
-      (at : eqb r a and eqb p b ≡ true → noted (ask k a b c) 1 old r p ≡ made) (word : has w p ≡ (if eqb p b then made else has (S.direct a) p)) where
+      (at : eqb r a and eqb p b ≡ true → noted (ask k a b c) 1 old r p ≡ made) (word : has w p ≡ (when eqb p b then made else has (S.direct a) p)) where
     by_pair : has (upd S.direct a w r) p ≡ noted (ask k a b c) 1 old r p
     by_pair =
         by_upd S.direct a w (λ (v : ℕ). has v p ≡ noted (ask k a b c) 1 old r p) r

@@ -1,6 +1,6 @@
 -- What is claimed of the role guard, each as the answer to a question. proofs/Claims.antt proves them.
-use Rattle.std.specs.Prelude.{◌↔◌, set}
-use Rattle.bits.specs.Words.{ℕ, suc, ◌+◌, ◌^◌, ◌<◌, ◌≡◌, Bool, true, false, not, List, [], ◌∷◌, eqb, ◌and◌, if◌then◌else◌, has}
+use Rattle.std.specs.Prelude.{◌↔◌, set, ◌+◌, ◌^◌, ◌<◌, ◌≡◌, ◌∷◌}
+use Rattle.bits.specs.Words.{ℕ, suc, Bool, true, false, not, List, [], eqb, ◌and◌, when◌then◌else◌, has}
 use Rattle.table.specs.State.{State}
 use Rattle.table.specs.Authority.{senior, permission, idle, Authorised, Effective}
 use Rattle.table.specs.Separation.{mask, bound, sets_empty, Fewer, Separated}
@@ -36,8 +36,8 @@ KeptApart = (t : List ℕ) (qs : List Ask) → is_sound t ≡ true → Separated
 -- 11 and 12 comes to what it comes to in the guard of 01 with the starts, links and masks of 02, which knows no sets.
 unfoldable pub plain_step : List ℕ → Ask → Outcome (List ℕ)
 plain_step t q =
-    if not (is_table t) then refuse 12 t else
-    if not (roles_sound (state t) and masks_true (state t)) then refuse 13 t else
+    when not (is_table t) then refuse 12 t else
+    when not (roles_sound (state t) and masks_true (state t)) then refuse 13 t else
     checked roles_allow changed t q
 
 abbrev pub WithoutSets : Type 0

@@ -1,5 +1,5 @@
 -- The role guard on a lent table: refusals in the order of 01 and 02, then yes or no.
-use Rattle.bits.specs.Words.{ℕ, Bool, true, not, List, leb, ◌and◌, ◌or◌, if◌then◌else◌, has, ◌with◌}
+use Rattle.bits.specs.Words.{ℕ, Bool, true, not, List, leb, ◌and◌, ◌or◌, when◌then◌else◌, has, ◌with◌}
 use Rattle.bits.specs.Sets.{each}
 use Rattle.table.specs.State.{State}
 use Rattle.table.specs.Authority.{idle, covers, authorised, may_activate}
@@ -16,22 +16,22 @@ use Rattle.rbac.specs.Roles.{Request, opens, closes, starts, ends, activates, dr
 -- refusal 17, then yes or no by the test given, and after a yes the change given; yes or no spends 1
 unfoldable pub served : (State → Request → Bool) → (State → Request → State) → List ℕ → Request → Outcome (List ℕ)
 served test change t r =
-    if not (known (state t) r) then refuse 17 t else
+    when not (known (state t) r) then refuse 17 t else
     decide (test (state t) r) 1 1 (encode (change (state t) r)) t
 
 -- refusals 15, 16 and 21, then the request
 unfoldable pub checked : (State → Request → Bool) → (State → Request → State) → List ℕ → Ask → Outcome (List ℕ)
 checked test change t q =
-    if not (is_code q) then refuse 15 t else
-    if not (in_range q) then refuse 16 t else
-    if carries_bad_pair q then refuse 21 t else
+    when not (is_code q) then refuse 15 t else
+    when not (in_range q) then refuse 16 t else
+    when carries_bad_pair q then refuse 21 t else
     served test change t (decode q)
 
 -- a role request: its answer, the figure spent, and the table after it
 unfoldable pub role_step : List ℕ → Ask → Outcome (List ℕ)
 role_step t q =
-    if not (is_table t) then refuse 12 t else
-    if not (sound (state t)) then refuse 13 t else
+    when not (is_table t) then refuse 12 t else
+    when not (sound (state t)) then refuse 13 t else
     checked allowed changed t q
 
 -- ---- the same on a table that is known to be sound
@@ -59,16 +59,16 @@ changed_sound S (opens s o x) = moved S (opens s o x)
 changed_sound S (closes s o x) = moved S (closes s o x)
 changed_sound S (starts s u roles) = refreshed_at s (moved S (starts s u roles))
 changed_sound S (ends s) = refreshed_at s (moved S (ends s))
-changed_sound S (activates s r) = let T = moved S (activates s r) in if has (S.active s) r then T else refreshed_at s T
-changed_sound S (drops s r) = let T = moved S (drops s r) in if has (S.active s) r then refreshed_at s T else T
+changed_sound S (activates s r) = let T = moved S (activates s r) in when has (S.active s) r then T else refreshed_at s T
+changed_sound S (drops s r) = let T = moved S (drops s r) in when has (S.active s) r then refreshed_at s T else T
 changed_sound S (assigns u r) = moved S (assigns u r)
 changed_sound S (deassigns u r) = moved S (deassigns u r)
-changed_sound S (grants r x o) = let T = moved S (grants r x o) in if has (S.granted x o) r then T else refreshed_pair x o T
-changed_sound S (revokes r x o) = let T = moved S (revokes r x o) in if has (S.granted x o) r then refreshed_pair x o T else T
+changed_sound S (grants r x o) = let T = moved S (grants r x o) in when has (S.granted x o) r then T else refreshed_pair x o T
+changed_sound S (revokes r x o) = let T = moved S (revokes r x o) in when has (S.granted x o) r then refreshed_pair x o T else T
 changed_sound S (separates n roles bound) = moved S (separates n roles bound)
 changed_sound S (links r q) = refreshed (moved S (links r q))
 changed_sound S (unlinks r q) = refreshed (moved S (unlinks r q))
 
 -- a role request without the soundness test: on a sound table it is `role_step` (Claims)
 unfoldable pub sound_step : List ℕ → Ask → Outcome (List ℕ)
-sound_step t q = if not (is_table t) then refuse 12 t else checked allowed_sound changed_sound t q
+sound_step t q = when not (is_table t) then refuse 12 t else checked allowed_sound changed_sound t q

@@ -1,7 +1,8 @@
 -- The role requests: the table of 01 ("Role requests"), a line for each of codes 1 to 10, start with its roles chosen (02, S-1);
 -- the two that replace a separation set, codes 11 and 12 (02, S-4); and the two that make and take away a link of seniority,
 -- codes 13 and 14 (02, S-5).
-use Rattle.bits.specs.Words.{ℕ, suc, ◌+◌, ◌-◌, Bool, true, not, List, [], ◌∷◌, eqb, leb, get_or, ◌and◌, ◌or◌, upd, has, ◌with◌}
+use Rattle.std.specs.Prelude.{◌+◌, ◌-◌, ◌∷◌}
+use Rattle.bits.specs.Words.{ℕ, suc, Bool, true, not, List, [], eqb, leb, get_or, ◌and◌, ◌or◌, upd, has, ◌with◌}
 use Rattle.bits.specs.Sets.{each, ◌without◌}
 use Rattle.table.specs.State.{State}
 use Rattle.table.specs.Authority.{senior, permission, idle, authorised, may_activate, effective}

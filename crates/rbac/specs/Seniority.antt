@@ -1,6 +1,6 @@
 -- What is claimed of change of seniority at work (02, S-5), each as the answer to a question. proofs/Seniority.antt proves them.
-use Rattle.std.specs.Prelude.{◌↔◌}
-use Rattle.bits.specs.Words.{ℕ, ◌<◌, ◌≡◌, Bool, true, false, not, List, [], ◌∷◌, eqb, ◌and◌, if◌then◌else◌, has, pack, ◌with◌}
+use Rattle.std.specs.Prelude.{◌↔◌, ◌<◌, ◌≡◌, ◌∷◌}
+use Rattle.bits.specs.Words.{ℕ, Bool, true, false, not, List, [], eqb, ◌and◌, when◌then◌else◌, has, pack, ◌with◌}
 use Rattle.bits.specs.Sets.{◌without◌}
 use Rattle.closure.specs.Closure.{Reaches}
 use Rattle.table.specs.State.{State}
@@ -63,9 +63,9 @@ UnlinkKeepsOpenings =
 -- 14 takes one away
 unfoldable pub noted : Ask → ℕ → (ℕ → ℕ → Bool) → ℕ → ℕ → Bool
 noted q answer old r p =
-    if not (eqb answer 1 and eqb r q.a and eqb p q.b) then old r p else
-    if eqb q.code 13 then true else
-    if eqb q.code 14 then false else
+    when not (eqb answer 1 and eqb r q.a and eqb p q.b) then old r p else
+    when eqb q.code 13 then true else
+    when eqb q.code 14 then false else
     old r p
 
 unfoldable pub recorded : (ℕ → ℕ → Bool) → List ℕ → List Ask → ℕ → ℕ → Bool

@@ -1,5 +1,6 @@
 -- What the private functions, one for each request, take and answer. No promise rests on this page.
-use Rattle.bits.specs.Words.{ℕ, ◌<◌, ◌≡◌, Bool, true, List, ltb, length, if◌then◌else◌}
+use Rattle.std.specs.Prelude.{◌<◌, ◌≡◌}
+use Rattle.bits.specs.Words.{ℕ, Bool, true, List, ltb, length, when◌then◌else◌}
 use Rattle.table.specs.State.{State}
 use Rattle.table.specs.Authority.{permission}
 use Rattle.table.specs.Separation.{GoodPair}
@@ -31,9 +32,9 @@ pub record Fit (t : List ℕ) (q : Request) : Type 0 where
 
 -- the pair (x, o) of a grant or revoke is a permission; the other codes name none
 unfoldable pub pair_known : State → ℕ → ℕ → ℕ → Bool
-pair_known S code x o = if ltb code 9 then true else if ltb 10 code then true else permission S x o
+pair_known S code x o = when ltb code 9 then true else when ltb 10 code then true else permission S x o
 
 -- yes or no and the table t' are what the request on t comes to, where t is known to be sound and no refusal fits
 pub record Served (t t' : List ℕ) (yes : Bool) (q : Request) : Type 0 where
   pub answer : yes ≡ allowed_sound (state t) q
-  pub table : t' ≡ (if yes then encode (changed_sound (state t) q) else t)
+  pub table : t' ≡ (when yes then encode (changed_sound (state t) q) else t)

@@ -1,6 +1,7 @@
 -- Table 1 of source 000 (§4.2.1), in its own terms: the state (m, user, UA, PA, roles) of §2.4, the effective permissions EP of
 -- §2.5 and the transition for an opening (+) and a closing (-). Sets are tests of their elements.
-use Rattle.bits.specs.Words.{ℕ, ◌<◌, ◌≡◌, Bool, true, not, eqb, ◌and◌, ◌or◌, has}
+use Rattle.std.specs.Prelude.{◌<◌, ◌≡◌}
+use Rattle.bits.specs.Words.{ℕ, Bool, true, not, eqb, ◌and◌, ◌or◌, has}
 use Rattle.bits.specs.Sets.{any}
 use Rattle.table.specs.State.{State}
 use Rattle.requests.specs.Request.{Outcome, decide}

@@ -6,7 +6,7 @@ use mathlib.Core.List.{List, [], ◌∷◌, ◌++◌}
 use mathlib.Core.Option.{Option, some, none}
 use lib.Dec.{eqb, ltb}
 use borrow.Author.Tests.{eqb-true}
-use Rattle.bits.specs.Words.{◌and◌, if◌then◌else◌}
+use Rattle.bits.specs.Words.{◌and◌, when◌then◌else◌}
 use Rattle.reader.specs.Line.{first, others, spelled, digit, number, behind, push, fields, joined}
 use Rattle.reader.specs.Reader.{letter, word_of, begun, tabbed, pushed, step_of, ended, finished, steps}
 use Rattle.reader.specs.declared.Word.{Word}
@@ -76,7 +76,7 @@ resume_tab Broken p ps = refl
 
 -- another byte
 field_byte : (good : Bool) (w : Word) (fs : Fields) (v : ℕ) (p : List ℕ) (ps : List (List ℕ))
-    → joined (As w) (fields ps (push (some fs) (if good then digits_from v p else none))) ≡ resume (if good then Digits w fs v else Broken) p ps
+    → joined (As w) (fields ps (push (some fs) (when good then digits_from v p else none))) ≡ resume (when good then Digits w fs v else Broken) p ps
 unfolding resume push
 field_byte good w fs v p ps = by_truth good (λ g. simp if_true) (λ g. simp if_false (refused w ps))
 

@@ -8,7 +8,7 @@ use native.Mathlib.Omega.{arith}
 use native.Mathlib.Nat.{le_trans, lt_of_le_of_lt, zero-add}
 use lib.Dec.{eqb, ltb}
 use borrow.Author.Tests.{eqb-true, eqb-false, ltb-true, lt-ltb}
-use Rattle.bits.specs.Words.{◌and◌, if◌then◌else◌}
+use Rattle.bits.specs.Words.{◌and◌, when◌then◌else◌}
 use Rattle.bits.proofs.Truth.{clash, by_truth, is_false, and_intro, and_left, and_right, true_and, false_and, and_false, if_true, if_false}
 use Rattle.reader.specs.Bytes.{every, empty}
 use Rattle.reader.specs.Line.{digit, worth, plain, number}
@@ -20,7 +20,7 @@ module _ {A : Type 0} (good : ℕ → Bool) (base : ℕ) (one : ℕ → ℕ) (do
   -- a digit at a time, refused as soon as the number passes 2^64
   unfoldable pub along : ℕ → List ℕ → A
   along v [] = done v
-  along v (b ∷ l) = if◌then◌else◌ (good b and ltb (v * base + one b) (2 ^ 64)) (along (v * base + one b) l) fail
+  along v (b ∷ l) = when◌then◌else◌ (good b and ltb (v * base + one b) (2 ^ 64)) (along (v * base + one b) l) fail
 
 -- what digits are worth behind v
 unfoldable pub total : ℕ → (ℕ → ℕ) → ℕ → List ℕ → ℕ
@@ -34,7 +34,7 @@ module _ {A : Type 0} (good : ℕ → Bool) (base : ℕ) (one : ℕ → ℕ) (gr
   total_grows v (b ∷ l) = le_trans (grows v b) (total_grows (v * base + one b) l)
 
   abbrev judged : ℕ → List ℕ → A
-  judged v l = if◌then◌else◌ (every good l and ltb (total base one v l) (2 ^ 64)) (done (total base one v l)) fail
+  judged v l = when◌then◌else◌ (every good l and ltb (total base one v l) (2 ^ 64)) (done (total base one v l)) fail
 
   -- it comes to the same to look at the whole number
   pub along_total : (v : ℕ) (l : List ℕ) → v < 2 ^ 64 → along good base one done fail v l ≡ judged v l
@@ -58,7 +58,7 @@ worth_total v (b ∷ l) = worth_total (v * 10 + (b - 48)) l
 -- what a field is worth that goes on behind digits that are worth v: nothing may stand behind a 0
 unfoldable pub digits_from : ℕ → List ℕ → Option ℕ
 digits_from v [] = some v
-digits_from v (b ∷ p) = if◌then◌else◌ (ltb 0 v and (digit b and ltb (v * 10 + (b - 48)) (2 ^ 64))) (digits_from (v * 10 + (b - 48)) p) none
+digits_from v (b ∷ p) = when◌then◌else◌ (ltb 0 v and (digit b and ltb (v * 10 + (b - 48)) (2 ^ 64))) (digits_from (v * 10 + (b - 48)) p) none
 
 -- behind another digit this is a digit at a time
 digits_along : (v : ℕ) (p : List ℕ) → 0 < v → digits_from v p ≡ along digit 10 (λ b. b - 48) some none v p
@@ -85,7 +85,7 @@ number_digits b p e f =
     rw (true_and _ f, if_false _ _ e, zero-add) (sym (rw (worth_total (b - 48) p) at whole)) ∙ sym (digits_along (b - 48) p (omega arith))
 
 -- a field a byte at a time
-pub number_along : (b : ℕ) (p : List ℕ) → number (b ∷ p) ≡ (if digit b then digits_from (b - 48) p else none)
+pub number_along : (b : ℕ) (p : List ℕ) → number (b ∷ p) ≡ (when digit b then digits_from (b - 48) p else none)
 unfolding number plain
 number_along b p =
     by_truth (digit b)

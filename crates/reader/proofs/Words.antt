@@ -6,7 +6,7 @@ use mathlib.Core.List.{List, [], ◌∷◌, reverse_aux, reverse, reverse-revers
 use native.Mathlib.Omega.{arith}
 use lib.Dec.{eqb, ltb, lit<}
 use borrow.Author.Tests.{eqb-true, eq-eqb, ne_eqb}
-use Rattle.bits.specs.Words.{◌and◌, if◌then◌else◌}
+use Rattle.bits.specs.Words.{◌and◌, when◌then◌else◌}
 use Rattle.reader.specs.Bytes.{every, same}
 use Rattle.reader.specs.Line.{Entry, words, find, spelled}
 use Rattle.reader.specs.Reader.{letter, packed, known, word_of}
@@ -79,7 +79,7 @@ all_fit : List Entry → Bool
 all_fit [] = true
 all_fit (e ∷ es) = fit e.letters and all_fit es
 
-packed_find : (es : List Entry) (p : List ℕ) → all_fit es ≡ true → (if fit p then known es (packed 0 p) else Nothing) ≡ find es p
+packed_find : (es : List Entry) (p : List ℕ) → all_fit es ≡ true → (when fit p then known es (packed 0 p) else Nothing) ≡ find es p
 unfolding find all_fit
 packed_find [] p h = if_same (fit p) Nothing
 packed_find (e ∷ es) p h =
@@ -88,13 +88,13 @@ packed_find (e ∷ es) p h =
     (λ a. let q = same_true p e.letters a in
     if_true _ _ (ap fit q ∙ here) ∙ if_true _ _ (eq-eqb _ _ (ap (packed 0) q)) ∙ sym (if_true _ _ a))
     (λ a.
-    let rest : (if fit p then known es (packed 0 p) else Nothing) ≡ find (e ∷ es) p =
+    let rest : (when fit p then known es (packed 0 p) else Nothing) ≡ find (e ∷ es) p =
     packed_find es p (and_right (fit e.letters) _ h) ∙ sym (if_false _ _ a) in
     by_truth (fit p)
     (λ b.
     let differ : packed 0 p ≡ packed 0 e.letters → ⊥ = λ q.
     clash (rw (packed_injective p e.letters (and_left _ _ b) (and_left _ _ here) q) (same_refl e.letters)) a in
-    ap (λ (o : Spelled). if fit p then o else Nothing) (if_false _ _ (ne_eqb _ _ differ)) ∙ rest)
+    ap (λ (o : Spelled). when fit p then o else Nothing) (if_false _ _ (ne_eqb _ _ differ)) ∙ rest)
     (λ b. if_false _ _ b ∙ sym (if_false _ _ b) ∙ rest))
 
 packed_total : (x : ℕ) (l : List ℕ) → total 256 (λ b. b) x l ≡ packed x l

@@ -1,7 +1,8 @@
 -- Bytes by the characters that they are in ASCII, and tests on lists of bytes.
+use Rattle.std.specs.Prelude.{◌∷◌}
 use Prim.Native.Char.{code}
 use Prim.Native.String.{String, [] as nothing, ◌∷◌ as ◌before◌}
-use Rattle.bits.specs.Words.{ℕ, Bool, true, false, List, [], ◌∷◌, eqb, ◌and◌}
+use Rattle.bits.specs.Words.{ℕ, Bool, true, false, List, [], eqb, ◌and◌}
 
 -- the bytes of a text in ASCII: the codes of its characters
 abbrev pub ascii : String → List ℕ

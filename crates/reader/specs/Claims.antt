@@ -1,5 +1,6 @@
 -- What is claimed of the line reader, each as the answer to a question. proofs/Claims.antt proves them.
-use Rattle.bits.specs.Words.{ℕ, ◌≡◌, List}
+use Rattle.std.specs.Prelude.{◌≡◌}
+use Rattle.bits.specs.Words.{ℕ, List}
 use Rattle.reader.specs.Bytes.{empty}
 use Rattle.reader.specs.Line.{line}
 use Rattle.reader.specs.Reader.{finished, steps, fresh}

@@ -1,7 +1,8 @@
 -- What a line of the transcript program is: refusal 10 of 01 and its section on the program. A line is its bytes without
 -- the newline. Whether the word belongs to the mode, and takes as many fields, is said in crate entries.
+use Rattle.std.specs.Prelude.{◌+◌, ◌-◌, ◌*◌, ◌^◌, ◌∷◌}
 use Prim.Native.Char.{code}
-use Rattle.bits.specs.Words.{ℕ, ◌+◌, ◌-◌, ◌*◌, ◌^◌, Bool, false, List, [], ◌∷◌, eqb, leb, ltb, length, ◌and◌, if◌then◌else◌}
+use Rattle.bits.specs.Words.{ℕ, Bool, false, List, [], eqb, leb, ltb, length, ◌and◌, when◌then◌else◌}
 use Rattle.std.proofs.Math.Option.{Option, some, none}
 use Rattle.reader.specs.Bytes.{ascii, tab, every, empty, same}
 use Rattle.reader.specs.declared.Word.{Word}
@@ -16,12 +17,12 @@ use Rattle.reader.specs.declared.Line.TheVariants.{Read, Refused}
 -- the bytes before the first tab
 unfoldable pub first : List ℕ → List ℕ
 first [] = []
-first (b ∷ l) = if eqb b tab then [] else b ∷ first l
+first (b ∷ l) = when eqb b tab then [] else b ∷ first l
 
 -- the pieces behind the first tab, parted by the other tabs
 unfoldable pub others : List ℕ → List (List ℕ)
 others [] = []
-others (b ∷ l) = if eqb b tab then first l ∷ others l else others l
+others (b ∷ l) = when eqb b tab then first l ∷ others l else others l
 
 -- a word and its letters
 pub record Entry : Type 0 where
@@ -57,7 +58,7 @@ words =
 -- the word of a list that has these letters
 unfoldable pub find : List Entry → List ℕ → Spelled
 find [] p = Nothing
-find (e ∷ es) p = if same p e.letters then As e.word else find es p
+find (e ∷ es) p = when same p e.letters then As e.word else find es p
 
 -- the word that a piece spells
 unfoldable pub spelled : List ℕ → Spelled
@@ -75,11 +76,11 @@ worth v (b ∷ l) = worth (v * 10 + (b - code "0")) l
 -- digits: behind a first 0 nothing, behind another first digit only digits
 unfoldable pub plain : List ℕ → Bool
 plain [] = false
-plain (b ∷ l) = digit b and (if eqb b (code "0") then empty l else every digit l)
+plain (b ∷ l) = digit b and (when eqb b (code "0") then empty l else every digit l)
 
 -- the number that a piece is: below 2^64
 unfoldable pub number : List ℕ → Option ℕ
-number p = if plain p and ltb (worth 0 p) (2 ^ 64) then some (worth 0 p) else none
+number p = when plain p and ltb (worth 0 p) (2 ^ 64) then some (worth 0 p) else none
 
 -- the fields with one number more: three at most
 unfoldable pub behind : Fields → ℕ → Option Fields
@@ -107,4 +108,4 @@ joined (As w) (some fs) = Read w fs
 
 -- the line that bytes are: at most 128 of them, a word, and a number behind each tab
 unfoldable pub line : List ℕ → Line
-line l = if leb (length l) 128 then joined (spelled (first l)) (fields (others l) (some Without)) else Refused
+line l = when leb (length l) 128 then joined (spelled (first l)) (fields (others l) (some Without)) else Refused

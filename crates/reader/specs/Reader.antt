@@ -1,7 +1,8 @@
 -- The reader, a byte at a time: where it stands after each, and what it makes of the line at its end. Claims says that
 -- this is what Line says of the whole line.
+use Rattle.std.specs.Prelude.{◌+◌, ◌-◌, ◌*◌, ◌^◌, ◌∷◌}
 use Prim.Native.Char.{code}
-use Rattle.bits.specs.Words.{ℕ, ◌+◌, ◌-◌, ◌*◌, ◌^◌, Bool, false, List, [], ◌∷◌, eqb, leb, ltb, ◌and◌, if◌then◌else◌}
+use Rattle.bits.specs.Words.{ℕ, Bool, false, List, [], eqb, leb, ltb, ◌and◌, when◌then◌else◌}
 use Rattle.std.proofs.Math.Option.{Option, some, none}
 use Rattle.reader.specs.Bytes.{tab}
 use Rattle.reader.specs.Line.{Entry, words, digit, behind}
@@ -27,7 +28,7 @@ packed x (b ∷ l) = packed (x * 256 + b) l
 -- the word of a list whose letters are packed in x
 abbrev pub known : List Entry → ℕ → Spelled
 known [] x = Nothing
-known (e ∷ es) x = if eqb x (packed 0 e.letters) then As e.word else known es x
+known (e ∷ es) x = when eqb x (packed 0 e.letters) then As e.word else known es x
 
 -- the word whose letters are packed in x
 unfoldable pub word_of : ℕ → Spelled
@@ -50,13 +51,13 @@ pushed w fs n = tabbed w (behind fs n)
 -- one byte further on; behind a field that is 0 no digit may stand
 unfoldable pub step_of : Reader → ℕ → Reader
 step_of (Letters x) b =
-    if eqb b tab then begun (word_of x) else
-    if letter b and ltb (x * 256 + b) (2 ^ 64) then Letters (x * 256 + b) else
+    when eqb b tab then begun (word_of x) else
+    when letter b and ltb (x * 256 + b) (2 ^ 64) then Letters (x * 256 + b) else
     Broken
-step_of (Tab w fs) b = if digit b then Digits w fs (b - code "0") else Broken
+step_of (Tab w fs) b = when digit b then Digits w fs (b - code "0") else Broken
 step_of (Digits w fs v) b =
-    if eqb b tab then pushed w fs v else
-    if ltb 0 v and (digit b and ltb (v * 10 + (b - code "0")) (2 ^ 64)) then Digits w fs (v * 10 + (b - code "0")) else
+    when eqb b tab then pushed w fs v else
+    when ltb 0 v and (digit b and ltb (v * 10 + (b - code "0")) (2 ^ 64)) then Digits w fs (v * 10 + (b - code "0")) else
     Broken
 step_of Broken b = Broken
 

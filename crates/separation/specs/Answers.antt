@@ -1,7 +1,8 @@
 -- What the public functions answer, for a list of any length and any number: no, where the list is no table or there is no such
 -- pair. `separated_of` is all that 02, S-4 asks of a table; the others are the parts of it that one change can break, and whether a set
 -- is in use.
-use Rattle.bits.specs.Words.{ℕ, ◌+◌, Bool, List, ltb, ◌and◌, if◌then◌else◌, has, all}
+use Rattle.std.specs.Prelude.{◌+◌}
+use Rattle.bits.specs.Words.{ℕ, Bool, List, ltb, ◌and◌, when◌then◌else◌, has, all}
 use Rattle.table.specs.State.{State}
 use Rattle.table.specs.Authority.{covers}
 use Rattle.table.specs.Separation.{mask, bound, fewer, static_holds, dynamic_holds, static_sets_hold, sets_empty, separated}
@@ -18,7 +19,7 @@ sets_fit S first roles = all 16 (λ n. fewer (mask S (first + n)) (bound S (firs
 
 -- the mask and the bound as pair n hold: as a static set below 16, else as a dynamic one
 unfoldable pub pair_holds : State → ℕ → ℕ → ℕ → Bool
-pair_holds S n m b = if ltb n 16 then static_holds S m b else dynamic_holds S m b
+pair_holds S n m b = when ltb n 16 then static_holds S m b else dynamic_holds S m b
 
 unfoldable pub sets_empty_of : List ℕ → Bool
 sets_empty_of t = is_table t and sets_empty (state t)

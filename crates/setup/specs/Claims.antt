@@ -1,6 +1,6 @@
 -- What is claimed of the role set-up, each as the answer to a question. proofs/Claims.antt proves them.
-use Rattle.std.specs.Prelude.{◌↔◌}
-use Rattle.bits.specs.Words.{ℕ, ◌<◌, ◌≡◌, true, List, length}
+use Rattle.std.specs.Prelude.{◌↔◌, ◌<◌, ◌≡◌}
+use Rattle.bits.specs.Words.{ℕ, true, List, length}
 use Rattle.table.specs.Table.{table_length}
 use Rattle.sound.specs.Answers.{is_sound}
 use Rattle.closure.specs.Closure.{Reaches}

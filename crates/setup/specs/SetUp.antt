@@ -1,6 +1,6 @@
 -- The role set-up of 01: refusals 12, 18 and 20 in order, then the closure, the permissions, the direct juniors as given but
 -- for own bits (02, S-5) and zero elsewhere. Old contents of the table do not matter.
-use Rattle.bits.specs.Words.{ℕ, not, List, eqb, length, get_or, ◌and◌, if◌then◌else◌}
+use Rattle.bits.specs.Words.{ℕ, not, List, eqb, length, get_or, ◌and◌, when◌then◌else◌}
 use Rattle.bits.specs.Sets.{◌without◌}
 use Rattle.table.specs.State.{State}
 use Rattle.table.specs.Table.{is_table, encode}
@@ -24,7 +24,7 @@ fresh direct permissions = record {
 
 unfoldable pub role_set_up : List ℕ → List ℕ → List ℕ → Outcome (List ℕ)
 role_set_up t direct permissions =
-    if not (is_table t) then refuse 12 t else
-    if not (eqb (length direct) 64 and eqb (length permissions) 8) then refuse 18 t else
-    if not (acyclic (closure direct)) then refuse 20 t else
+    when not (is_table t) then refuse 12 t else
+    when not (eqb (length direct) 64 and eqb (length permissions) 8) then refuse 18 t else
+    when not (acyclic (closure direct)) then refuse 20 t else
     accept (encode (fresh direct permissions))

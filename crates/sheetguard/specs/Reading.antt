@@ -1,5 +1,6 @@
 -- What the two reading functions answer and write: refusals 12, 13 and 16 in order, then the words asked for.
-use Rattle.bits.specs.Words.{ℕ, Bool, not, List, [], ◌∷◌, eqb, ltb, length, ◌and◌, if◌then◌else◌}
+use Rattle.std.specs.Prelude.{◌∷◌}
+use Rattle.bits.specs.Words.{ℕ, Bool, not, List, [], eqb, ltb, length, ◌and◌, when◌then◌else◌}
 use Rattle.table.specs.Sound.{sound}
 use Rattle.table.specs.Table.{is_table}
 use Rattle.table.specs.Reading.{state}
@@ -16,14 +17,14 @@ told n words = record { answer = n; words = words }
 -- refusals 12, 13 and 16 in order, then 1; known: the session or user is there, and the lent words have their number
 unfoldable pub readable : List ℕ → Bool → ℕ
 readable t known =
-    if not (is_table t) then 12 else
-    if not (sound (state t)) then 13 else
-    if not known then 16 else
+    when not (is_table t) then 12 else
+    when not (sound (state t)) then 13 else
+    when not known then 16 else
     1
 
 -- the words asked for; at a refusal the lent words stay
 unfoldable pub read : List ℕ → Bool → List ℕ → List ℕ → Told
-read t known out words = told (readable t known) (if eqb (readable t known) 1 then words else out)
+read t known out words = told (readable t known) (when eqb (readable t known) 1 then words else out)
 
 -- the effective permissions of session s in eight words, one a mode
 unfoldable pub read_permissions : List ℕ → ℕ → List ℕ → Told

@@ -6,7 +6,7 @@ use mathlib.Core.Bool.{Bool, true, false, not}
 use native.Mathlib.Omega.{arith}
 use lib.Dec.{eqb, ltb}
 use borrow.Author.Tests.{eq-eqb, ne_eqb, eqb-true, eqb-false, lt-ltb}
-use Rattle.bits.specs.Words.{◌and◌, if◌then◌else◌, upd, has, pack, ◌with◌}
+use Rattle.bits.specs.Words.{◌and◌, when◌then◌else◌, upd, has, pack, ◌with◌}
 use Rattle.bits.specs.Sets.{◌without◌}
 use Rattle.bits.proofs.Truth.{by_truth, same_truth, true_and, false_and, and_false, and_intro, if_true, if_false, false_or, not_intro}
 use Rattle.bits.proofs.Word.{has_with, has_without, pack_is, pack_cong, with_lt, without_lt, same_members, with_elim, with_new, with_old, without_old, without_other, without_keeps}
@@ -97,7 +97,7 @@ module _ (m : Machine) (g : Ranged m) (s : ℕ) where
 module _ (m : Machine) (s o x : ℕ) (hx : x < 2) (b : Bool) (w : ℕ) (word : w < 2 ^ 64) (own : has w o ≡ b)
     (other : (p : ℕ) → p < 64 → (p ≡ o → ⊥) → has w p ≡ has ((shown m).holds s x) p) where
   abbrev held : ℕ → ℕ → Bool
-  held q y = if eqb q o and eqb y x then b else m.held s q y
+  held q y = when eqb q o and eqb y x then b else m.held s q y
 
   member : (q : ℕ) → q < 64 → has w q ≡ ltb x 2 and held q x
   member q h =

@@ -5,7 +5,7 @@ use mathlib.Core.Bool.{Bool, true}
 use mathlib.Core.List.{List, [], ◌∷◌, ◌++◌}
 use lib.Dec.{eqb}
 use borrow.Author.Tests.{eq-eqb, eqb-true, lt-ltb}
-use Rattle.bits.specs.Words.{◌and◌, if◌then◌else◌, tabulate}
+use Rattle.bits.specs.Words.{◌and◌, when◌then◌else◌, tabulate}
 use Rattle.bits.proofs.Truth.{clash, by_truth, same_truth, if_true, if_false, and_intro, and_left, and_right}
 use Rattle.bits.proofs.Below.{all_intro}
 use Rattle.table.proofs.Agree.{by_upd, upd_same}
@@ -26,7 +26,7 @@ use Rattle.simulation.proofs.Toward.{clearances, labels, Toward, Further, stay, 
 by_held : (n : Machine) (s o x : ℕ) (b : Bool) (P : Bool → Type 0) (p q y : ℕ) → (p ≡ s → q ≡ o → y ≡ x → P b)
     → ((p ≡ s → q ≡ o → y ≡ x → ⊥) → P (n.held p q y)) → P ((with_held n s o x b).held p q y)
 by_held n s o x b P p q y f g =
-    by_upd n.held s (λ q y. if eqb q o and eqb y x then b else n.held s q y) (λ (h : ℕ → ℕ → Bool). P (h q y)) p
+    by_upd n.held s (λ q y. when eqb q o and eqb y x then b else n.held s q y) (λ (h : ℕ → ℕ → Bool). P (h q y)) p
     (λ i. by_truth (eqb q o and eqb y x)
     (λ c. subst P (sym (if_true b (n.held s q y) c)) (f i (eqb-true q o (and_left _ _ c)) (eqb-true y x (and_right (eqb q o) _ c))))
     (λ c. subst P (sym (if_false b (n.held s q y) c))

@@ -6,7 +6,7 @@ use mathlib.Core.List.{List}
 use native.Mathlib.Omega.{arith}
 use lib.Dec.{eqb}
 use borrow.Author.Tests.{eq-eqb, ne_eqb, eqb-true, eqb-false}
-use Rattle.bits.specs.Words.{◌implies◌, if◌then◌else◌, upd, has, all, ◌with◌}
+use Rattle.bits.specs.Words.{◌implies◌, when◌then◌else◌, upd, has, all, ◌with◌}
 use Rattle.bits.specs.Sets.{each, ◌without◌}
 use Rattle.bits.proofs.Truth.{by_truth, same_truth, if_true, if_false, implies_intro, implies_elim}
 use Rattle.bits.proofs.Below.{all_intro, all_cong}
@@ -151,7 +151,7 @@ module _ (m : Machine) (g : Ranged m) (f : Safe m) where
           → pictured (act m (reclearing u c)) ≡ decide b 2 3 (image (with_clearance m u c)) (image m)
       machine_says {b} e =
           decided m _ _ _ _ (reclearing u c) (act_reclearing m u c)
-          ∙ ap (λ (d : Bool). decide d (if eqb k c then 0 else 2) (if eqb k c then 0 else 3) (image (with_clearance m u c)) (image m)) e
+          ∙ ap (λ (d : Bool). decide d (when eqb k c then 0 else 2) (when eqb k c then 0 else 3) (image (with_clearance m u c)) (image m)) e
           ∙ ap₂ (λ (i j : ℕ). decide b i j (image (with_clearance m u c)) (image m)) (if_false 0 2 (ne_eqb k c n)) (if_false 0 3 (ne_eqb k c n))
 
       reclear_changed_same : all 32 (λ s. fits u c (m.seat s)) ≡ true → Simulated m (reclearing u c)

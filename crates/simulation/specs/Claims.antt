@@ -1,7 +1,7 @@
 -- What is claimed of single label requests and of the states that the machine reaches, each as the answer to a question.
 -- proofs/Unchanged.antt and proofs/Reachable.antt prove them.
-use Rattle.std.specs.Prelude.{◌↔◌}
-use Rattle.bits.specs.Words.{ℕ, ◌^◌, ◌<◌, ◌≡◌, true, List}
+use Rattle.std.specs.Prelude.{◌↔◌, ◌^◌, ◌<◌, ◌≡◌}
+use Rattle.bits.specs.Words.{ℕ, true, List}
 use Rattle.table.specs.Table.{is_table}
 use Rattle.table.specs.Reading.{word, state}
 use Rattle.sound.specs.Answers.{is_sound}

@@ -1,6 +1,7 @@
 -- A label set-up and a list of label requests in one call. The requests are lent as words, four each: code and three
 -- arguments; the replies go into lent words, two each: answer and figure.
-use Rattle.bits.specs.Words.{ℕ, ◌+◌, ◌*◌, ◌/◌, ◌%◌, Bool, not, List, [], ◌∷◌, eqb, leb, length, get_or, ◌and◌, if◌then◌else◌, tabulate}
+use Rattle.std.specs.Prelude.{◌+◌, ◌*◌, ◌/◌, ◌%◌, ◌∷◌}
+use Rattle.bits.specs.Words.{ℕ, Bool, not, List, [], eqb, leb, length, get_or, ◌and◌, when◌then◌else◌, tabulate}
 use Rattle.table.specs.Table.{is_table}
 use Rattle.requests.specs.Request.{Ask, ask, Outcome, refuse}
 use Rattle.machine.specs.Machine.{step, begin}
@@ -15,7 +16,7 @@ ask_at words i = ask (get_or words (4 * i) 0) (get_or words (4 * i + 1) 0) (get_
 
 -- the outcome of the request at place i, where the words have one there; refusal 18 past their end
 unfoldable pub serve_at : List ℕ → List ℕ → ℕ → Outcome (List ℕ)
-serve_at t words i = if leb (length words / 4) i then refuse 18 t else image_step t (ask_at words i)
+serve_at t words i = when leb (length words / 4) i then refuse 18 t else image_step t (ask_at words i)
 
 -- the requests of the words, in order
 unfoldable pub asks : List ℕ → List Ask
@@ -43,7 +44,7 @@ kept n t replies = record { answer = n; table = t; replies = replies }
 -- refusals 12 and 18, those of the set-up, and then the machine's run
 unfoldable pub machine_run : List ℕ → List ℕ → List ℕ → List ℕ → List ℕ → Left
 machine_run t clearances labels words old =
-    if not (is_table t) then kept 12 t old else
-    if not (paired words old) then kept 18 t old else
-    if not (eqb (label_set_up t clearances labels).answer 1) then kept (label_set_up t clearances labels).answer t old else
+    when not (is_table t) then kept 12 t old else
+    when not (paired words old) then kept 18 t old else
+    when not (eqb (label_set_up t clearances labels).answer 1) then kept (label_set_up t clearances labels).answer t old else
     kept 1 (image (final step (begin clearances labels) (asks words))) (flat (trace step (begin clearances labels) (asks words)))

@@ -1,7 +1,8 @@
 -- What the public functions answer, for a list of any length and any number: no, where the list is no table or there is no
 -- such session, user, mode or object. `is_sound` is soundness, of 01 and 02; the others are the parts of it that one change can
 -- break.
-use Rattle.bits.specs.Words.{ℕ, suc, ◌+◌, ◌*◌, Bool, List, eqb, leb, ltb, get_or, ◌and◌, ◌implies◌, has, all, subset}
+use Rattle.std.specs.Prelude.{◌+◌, ◌*◌}
+use Rattle.bits.specs.Words.{ℕ, suc, Bool, List, eqb, leb, ltb, get_or, ◌and◌, ◌implies◌, has, all, subset}
 use Rattle.bits.specs.Sets.{each}
 use Rattle.table.specs.State.{State}
 use Rattle.table.specs.Authority.{authorised, may_activate, effective}

@@ -7,7 +7,7 @@ use native.Mathlib.Nat.{zero-add}
 use lib.Dec.{eqb, leb, ltb}
 use lib.ListN.{length, get_or}
 use borrow.Author.Tests.{leb-true, le-leb, lt-leb, ltb-true, lt-ltb, le-ltb}
-use Rattle.bits.specs.Words.{◌and◌, if◌then◌else◌, has, all, subset, pack, tabulate}
+use Rattle.bits.specs.Words.{◌and◌, when◌then◌else◌, has, all, subset, pack, tabulate}
 use Rattle.bits.specs.Sets.{each, overlap}
 use Rattle.bits.proofs.Truth.{clash, is_false, and_intro, and_left, and_right, true_and, false_and, and_false, if_true, if_false}
 use Rattle.bits.proofs.Word.{has_zero, has_all, pack_cong, pack_none}
@@ -77,7 +77,7 @@ module _ (t : List ℕ) where
 
   pub effective_permissions_none : (s : ℕ) → is_table t and ltb s 32 ≡ false
       → 0 ∷ 0 ∷ 0 ∷ 0 ∷ 0 ∷ 0 ∷ 0 ∷ 0 ∷ [] ≡ effective_permissions t s
-  unfolding effective_permissions tabulate if◌then◌else◌
+  unfolding effective_permissions tabulate when◌then◌else◌
   effective_permissions_none s e = rw e
 
 -- ---- the tests of one role and of one pair

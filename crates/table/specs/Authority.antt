@@ -1,6 +1,7 @@
 -- Seniority, authorised roles (ER) and effective permissions (EP) after source 000, each as a test, and below as a plain
 -- statement. Roles are looked for among 0 to 63; the user, role, object, session or mode asked for is not held to its range here.
-use Rattle.bits.specs.Words.{ℕ, ◌-◌, ◌<◌, ◌≡◌, Bool, true, not, eqb, ◌and◌, has}
+use Rattle.std.specs.Prelude.{◌-◌, ◌<◌, ◌≡◌}
+use Rattle.bits.specs.Words.{ℕ, Bool, true, not, eqb, ◌and◌, has}
 use Rattle.bits.specs.Sets.{some}
 use Rattle.table.specs.State.{State}
 

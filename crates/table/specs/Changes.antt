@@ -1,6 +1,7 @@
 -- A state with one of its sections replaced, and with the words of one user, pair, session, set or role; the juniors follow the
 -- direct ones (`set_direct`, `with_direct`).
-use Rattle.bits.specs.Words.{ℕ, ◌+◌, ◌*◌, get_or, upd}
+use Rattle.std.specs.Prelude.{◌+◌, ◌*◌}
+use Rattle.bits.specs.Words.{ℕ, get_or, upd}
 use Rattle.closure.specs.Closure.{closure}
 use Rattle.table.specs.State.{State}
 use Rattle.table.specs.Seniority.{links}

@@ -1,6 +1,6 @@
 -- What is claimed of the definitions themselves, each as the answer to a question. proofs/Claims.antt proves them.
-use Rattle.std.specs.Prelude.{◌↔◌}
-use Rattle.bits.specs.Words.{ℕ, ◌^◌, ◌<◌, ◌≡◌, true, List, has}
+use Rattle.std.specs.Prelude.{◌↔◌, ◌^◌, ◌<◌, ◌≡◌}
+use Rattle.bits.specs.Words.{ℕ, true, List, has}
 use Rattle.table.specs.State.{State}
 use Rattle.bits.specs.Sets.{◌without◌}
 use Rattle.closure.specs.Closure.{Reaches}

@@ -1,6 +1,7 @@
 -- The masks (02, S-6): of each session and mode, the objects that are effective. A state whose masks are true, and a state with
 -- masks worked out anew.
-use Rattle.bits.specs.Words.{ℕ, ◌<◌, ◌≡◌, Bool, eqb, if◌then◌else◌, upd, all, pack, ◌with◌}
+use Rattle.std.specs.Prelude.{◌<◌, ◌≡◌}
+use Rattle.bits.specs.Words.{ℕ, Bool, eqb, when◌then◌else◌, upd, all, pack, ◌with◌}
 use Rattle.bits.specs.Sets.{◌without◌}
 use Rattle.table.specs.State.{State}
 use Rattle.table.specs.Authority.{effective}
@@ -24,7 +25,7 @@ refreshed_at s S = with_masks S s (mask_of S s)
 
 -- the word with the member i where b, else without it
 unfoldable pub put : ℕ → ℕ → Bool → ℕ
-put w i b = if b then w with i else w without i
+put w i b = when b then w with i else w without i
 
 -- the state with the pair (x, o) worked out anew in the masks of every session
 abbrev pub refreshed_pair : ℕ → ℕ → State → State

@@ -1,6 +1,7 @@
 -- The state that a table shows, and where each of its words stands. No other page says where, but for the order of the sections in
 -- `encode` (Table). Words that a shorter list lacks read as 0.
-use Rattle.bits.specs.Words.{ℕ, ◌+◌, ◌*◌, List, get_or}
+use Rattle.std.specs.Prelude.{◌+◌, ◌*◌}
+use Rattle.bits.specs.Words.{ℕ, List, get_or}
 use Rattle.table.specs.State.{State}
 
 -- ---- where each word stands

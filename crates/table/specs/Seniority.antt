@@ -1,6 +1,6 @@
 -- Links from roles to their direct juniors, and the seniority that they make (02, S-5): as a test, and below as a plain statement.
-use Rattle.std.specs.Prelude.{◌↔◌}
-use Rattle.bits.specs.Words.{ℕ, ◌^◌, ◌<◌, ◌≡◌, Bool, true, false, not, List, eqb, get_or, has, all, tabulate}
+use Rattle.std.specs.Prelude.{◌↔◌, ◌^◌, ◌<◌, ◌≡◌}
+use Rattle.bits.specs.Words.{ℕ, Bool, true, false, not, List, eqb, get_or, has, all, tabulate}
 use Rattle.closure.specs.Closure.{closure, Reaches}
 use Rattle.table.specs.State.{State}
 

@@ -1,6 +1,7 @@
 -- Separation of duties (02, S-4): static sets 0 to 15 and dynamic sets 0 to 15, each a mask of roles and a bound. Each rule as
 -- a test, and below as a plain statement.
-use Rattle.bits.specs.Words.{ℕ, ◌+◌, ◌*◌, ◌≤◌, ◌<◌, ◌≡◌, Bool, false, not, eqb, ltb, ◌and◌, ◌or◌, has, all}
+use Rattle.std.specs.Prelude.{◌+◌, ◌*◌, ◌≤◌, ◌<◌, ◌≡◌}
+use Rattle.bits.specs.Words.{ℕ, Bool, false, not, eqb, ltb, ◌and◌, ◌or◌, has, all}
 use Rattle.bits.specs.Sets.{count, size}
 use Rattle.table.specs.State.{State}
 use Rattle.table.specs.Authority.{authorised}

@@ -1,6 +1,7 @@
 -- Soundness of a state: a definition for each clause of 01, in its words, the clauses together, and with them those of 02.
 -- `Sound` says the same as plain facts.
-use Rattle.bits.specs.Words.{ℕ, ◌≤◌, ◌<◌, ◌≡◌, Bool, true, eqb, leb, ◌and◌, ◌implies◌, has, all}
+use Rattle.std.specs.Prelude.{◌≤◌, ◌<◌, ◌≡◌}
+use Rattle.bits.specs.Words.{ℕ, Bool, true, eqb, leb, ◌and◌, ◌implies◌, has, all}
 use Rattle.bits.specs.Sets.{each}
 use Rattle.table.specs.State.{State}
 use Rattle.table.specs.Authority.{senior, permission, idle, may_activate, effective}

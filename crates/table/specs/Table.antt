@@ -1,5 +1,6 @@
 -- The table of 01 ("The table"), with the sections that 02 adds at its end (S-4, S-5, S-6): the words that show a state.
-use Rattle.bits.specs.Words.{ℕ, ◌/◌, ◌%◌, Bool, List, ◌++◌, eqb, length, tabulate}
+use Rattle.std.specs.Prelude.{◌/◌, ◌%◌, ◌++◌}
+use Rattle.bits.specs.Words.{ℕ, Bool, List, eqb, length, tabulate}
 use Rattle.table.specs.State.{State}
 
 -- the number of words of a table

@@ -4,7 +4,7 @@ use mathlib.Core.Path.{◌≡◌, sym, ap, ◌∙◌}
 use mathlib.Core.Bool.{Bool}
 use mathlib.Core.List.{List, [], ◌∷◌, ◌++◌, append-nil, append_assoc}
 use lib.Dec.{eqb}
-use Rattle.bits.specs.Words.{if◌then◌else◌}
+use Rattle.bits.specs.Words.{when◌then◌else◌}
 use Rattle.bits.proofs.Truth.{by_truth, if_true, if_false}
 use Rattle.reader.specs.Bytes.{empty}
 use Rattle.reader.specs.Line.{line}
@@ -30,7 +30,7 @@ behind d n q = record { kept = d; number = n; reader = steps (Letters 0) q }
 last_row : (d : Store) (n : ℕ) (q : List ℕ) → closing n (steps (Letters 0) q) ≡ rows n (results d (lines_of q []))
 unfolding closing lines_of rows results
 last_row d n q =
-    ap (λ (t : Bool). if t then [] else row n (fault_number WrongForm) 0) (fresh_read q)
+    ap (λ (t : Bool). when t then [] else row n (fault_number WrongForm) 0) (fresh_read q)
     ∙ by_truth (empty q) (λ e. simp if_true) (λ e. simp if_false (rw (line_refused guarded d) (sym (append-nil _))))
 
 -- what bytes and then the end of the input make it write

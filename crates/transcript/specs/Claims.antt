@@ -1,6 +1,6 @@
 -- What is claimed of transcripts, each as the answer to a question. proofs/Claims.antt proves them.
-use Rattle.std.specs.Prelude.{◌≤◌, drop}
-use Rattle.bits.specs.Words.{ℕ, ◌-◌, ◌^◌, ◌<◌, ◌≡◌, true, List, [], ◌∷◌, ◌++◌, List-as-Memᴰ}
+use Rattle.std.specs.Prelude.{◌≤◌, drop, ◌-◌, ◌^◌, ◌<◌, ◌≡◌, ◌∷◌, ◌++◌}
+use Rattle.bits.specs.Words.{ℕ, true, List, [], List-as-Memᴰ}
 use Rattle.table.specs.Table.{is_table}
 use Rattle.output.specs.Text.{header, row_room}
 use Rattle.reader.specs.declared.Reader.TheVariants.{Letters}

@@ -1,5 +1,6 @@
 -- The whole output of the transcript program as a function of its whole input: the section of 01 on the program.
-use Rattle.bits.specs.Words.{ℕ, ◌+◌, List, [], ◌∷◌, ◌++◌, eqb, if◌then◌else◌, tabulate}
+use Rattle.std.specs.Prelude.{◌+◌, ◌∷◌, ◌++◌}
+use Rattle.bits.specs.Words.{ℕ, List, [], eqb, when◌then◌else◌, tabulate}
 use Rattle.table.specs.Table.{table_length}
 use Rattle.reader.specs.Bytes.{newline, empty}
 use Rattle.reader.specs.Line.{line}
@@ -13,8 +14,8 @@ use Rattle.ledger.specs.Step.{guarded, step}
 -- the lines of an input behind the first bytes q of a line: a newline ends a line, and what is left over without one is one
 -- more line, refused
 unfoldable pub lines_of : List ℕ → List ℕ → List Line
-lines_of q [] = if empty q then [] else Refused ∷ []
-lines_of q (b ∷ l) = if eqb b newline then line q ∷ lines_of [] l else lines_of (q ++ (b ∷ [])) l
+lines_of q [] = when empty q then [] else Refused ∷ []
+lines_of q (b ∷ l) = when eqb b newline then line q ∷ lines_of [] l else lines_of (q ++ (b ∷ [])) l
 
 -- what is shown of a line
 pub record Result : Type 0 where

@@ -1,6 +1,7 @@
 -- A transcript byte by byte: where it stands behind each byte, and what each byte makes it write. Claims says that this is
 -- what Document says of the whole input.
-use Rattle.bits.specs.Words.{ℕ, ◌+◌, ◌-◌, ◌^◌, ◌≤◌, ◌≡◌, Bool, true, false, List, [], ◌∷◌, ◌++◌, eqb, ltb, length, ◌and◌, ◌or◌, if◌then◌else◌}
+use Rattle.std.specs.Prelude.{◌+◌, ◌-◌, ◌^◌, ◌≤◌, ◌≡◌, ◌∷◌, ◌++◌}
+use Rattle.bits.specs.Words.{ℕ, Bool, true, false, List, [], eqb, ltb, length, ◌and◌, ◌or◌, when◌then◌else◌}
 use Rattle.std.proofs.lemmas.List.Edits.{sets}
 use Rattle.reader.specs.Bytes.{newline}
 use Rattle.reader.specs.Reader.{step_of, finished, fresh}
@@ -47,18 +48,18 @@ reply G p s = row p.number (step G p.kept (finished s)).answer (step G p.kept (f
 -- where the transcript stands behind bytes
 unfoldable pub after : Guards → Standing → List ℕ → Standing
 after G p [] = p
-after G p (b ∷ l) = after G (if eqb b newline then replied G p p.reader else reading p (step_of p.reader b)) l
+after G p (b ∷ l) = after G (when eqb b newline then replied G p p.reader else reading p (step_of p.reader b)) l
 
 -- what bytes make it write
 unfoldable pub emitted : Guards → Standing → List ℕ → List ℕ
 emitted G p [] = []
 emitted G p (b ∷ l) =
-    if eqb b newline then reply G p p.reader ++ emitted G (replied G p p.reader) l else
+    when eqb b newline then reply G p p.reader ++ emitted G (replied G p p.reader) l else
     emitted G (reading p (step_of p.reader b)) l
 
 -- what is written at the end of the input: a line without its newline is refused
 unfoldable pub closing : ℕ → Reader → List ℕ
-closing number s = if fresh s then [] else row number (fault_number WrongForm) 0
+closing number s = when fresh s then [] else row number (fault_number WrongForm) 0
 
 -- ---- a block
 
@@ -85,8 +86,8 @@ full room number = ltb room row_room or eqb number (2 ^ 64 - 1)
 unfoldable pub serving : Guards → ℕ → Bool → Standing → List ℕ → Stop
 serving G room between p [] = halt p
 serving G room between p (b ∷ l) =
-    if between and full room p.number then halt p else
-    if eqb b newline then ahead 1 (reply G p p.reader) (serving G (room - length (reply G p p.reader)) true (replied G p p.reader) l) else
+    when between and full room p.number then halt p else
+    when eqb b newline then ahead 1 (reply G p p.reader) (serving G (room - length (reply G p p.reader)) true (replied G p p.reader) l) else
     ahead 1 [] (serving G room false (reading p (step_of p.reader b)) l)
 
 -- q, the places next and used, and out' are those of a block served from a place on; used is a place of out'

@@ -4,7 +4,7 @@ use Prim.Native.Nat.{ℕ, ◌-◌, ◌≤◌, ◌<◌}
 use mathlib.Core.Path.{refl, sym, ap, ◌∙◌}
 use native.Mathlib.Omega.{arith}
 use lib.ListN.{length, get_or}
-use Rattle.bits.specs.Words.{if◌then◌else◌, has, tabulate}
+use Rattle.bits.specs.Words.{when◌then◌else◌, has, tabulate}
 use Rattle.bits.specs.Sets.{join}
 use Rattle.bits.proofs.Tabulate.{Writing, write_start, write_step, write_end}
 use Rattle.closure.specs.Closure.{via}
@@ -23,7 +23,7 @@ loop-r-preserved c =
     let h : l.r < length l.rows = omega arith in (
       write_step l.invariant.0 h
           (c.passed_row.ensures
-          ∙ ap (λ (w : ℕ). if◌then◌else◌ (has w a.k) (join w (get_or a.rows.now a.k 0)) w) (l.invariant.0.after l.r (omega arith))),
+          ∙ ap (λ (w : ℕ). when◌then◌else◌ (has w a.k) (join w (get_or a.rows.now a.k 0)) w) (l.invariant.0.after l.r (omega arith))),
       omega arith,
     )
 

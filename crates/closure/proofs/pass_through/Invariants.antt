@@ -4,7 +4,7 @@ use Prim.Native.Nat.{ℕ, ◌-◌, ◌≤◌, ◌<◌}
 use mathlib.Core.Path.{refl, sym, ap, ◌∙◌}
 use native.Mathlib.Omega.{arith}
 use lib.ListN.{length, get_or}
-use Rattle.bits.specs.Words.{if◌then◌else◌, has, tabulate}
+use Rattle.bits.specs.Words.{when◌then◌else◌, has, tabulate}
 use Rattle.bits.specs.Sets.{join}
 use Rattle.bits.proofs.Tabulate.{Writing, write_start, write_step, write_end}
 use Rattle.closure.specs.Closure.{via}
