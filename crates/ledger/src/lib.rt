@@ -1,4 +1,6 @@
 // What a transcript keeps from line to line, and what each line comes to.
+#![tactic(auto)]
+
 ghost use Rattle.std.specs.Prelude.{◌≡◌};
 ghost use Rattle.requests.specs.Request.{ask};
 ghost use Rattle.ledger.specs.Store.{store, added, stored, Comes};

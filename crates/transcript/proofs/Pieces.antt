@@ -7,7 +7,7 @@ use native.Mathlib.Omega.{arith}
 use lib.Dec.{eqb}
 use lib.ListN.{length, drop, drop_of_length-le}
 use lib.Seq.{drop-drop}
-use Rattle.bits.specs.Words.{◌and◌}
+use Rattle.bits.specs.Words.{◌and◌, when◌then◌else◌}
 use Rattle.bits.proofs.Truth.{by_truth, if_true, if_false}
 use Rattle.reader.specs.Reader.{step_of}
 use Rattle.ledger.specs.Step.{Guards}
@@ -20,7 +20,7 @@ module _ (G : Guards) where
   pub after_append : (p : Standing) (l m : List ℕ) → after G p (l ++ m) ≡ after G (after G p l) m
   unfolding after
   after_append p [] m = refl
-  after_append p (b ∷ l) m = after_append _ l m
+  after_append p (b ∷ l) m = after_append (when eqb b 10 then replied G p p.reader else reading p (step_of p.reader b)) l m
 
   pub emitted_append : (p : Standing) (l m : List ℕ) → emitted G p (l ++ m) ≡ emitted G p l ++ emitted G (after G p l) m
   unfolding after emitted

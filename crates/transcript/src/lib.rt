@@ -1,4 +1,6 @@
 // Transcripts in blocks of input and output.
+#![tactic(auto)]
+
 ghost use Rattle.std.specs.Prelude.{◌≡◌, true, ◌≤◌, length, drop};
 ghost use Rattle.output.specs.Text.{Wrote, fitting};
 ghost use Rattle.ledger.specs.Step.{unguarded};
