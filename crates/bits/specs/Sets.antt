@@ -1,6 +1,6 @@
 -- What holds of some number, of each or of some member of a word, how many it holds of, and more words that are made of words.
 use Rattle.std.specs.Prelude.{◌+◌, ◌-◌, ◌≤◌, ◌<◌, ◌≡◌}
-use Rattle.bits.specs.Words.{ℕ, zero, suc, Bool, true, false, not, eqb, ◌and◌, ◌or◌, ◌implies◌, when◌then◌else◌, has, all, bit, pack}
+use Rattle.bits.specs.Words.{ℕ, zero, suc, Bool, false, not, eqb, ◌and◌, ◌or◌, ◌implies◌, when◌then◌else◌, has, all, bit, pack}
 
 infixl 55 ◌without◌
 -- f holds of some number below n: asked from 0 up, and no further than the first of which it does

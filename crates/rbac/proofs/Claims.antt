@@ -34,7 +34,7 @@ use Rattle.sound.specs.Answers.{is_sound}
 use Rattle.sound.proofs.Answers.{sound_state, sound_table}
 use Rattle.requests.specs.Request.{ask, Outcome}
 use Rattle.rbac.specs.Roles.{Request, opens, closes, starts, ends, activates, drops, assigns, deassigns, grants, revokes, separates, links, unlinks, limits, in_range, decode, known, roles_allow, allowed, moved, changed}
-use Rattle.rbac.specs.Guard.{role_step, allowed_sound, changed_sound}
+use Rattle.rbac.specs.Guard.{role_step}
 use Rattle.rbac.specs.Served.{Ranged}
 use Rattle.rbac.specs.Source.{Sigma, sigma, EP, opened, closed, tau_open, tau_close, Same}
 use Rattle.rbac.specs.Claims.{Unchanged, after, KeptSound, KeptApart, plain_step, WithoutSets, ServedSame, IsTableOne, OpenIsTableOne, CloseIsTableOne, MasksKept, OpenIsMask, StartMeans, StartWrites, hangs, SoundnessDecides, idempotent, AddedAgain}

@@ -1,9 +1,8 @@
 -- The guard's refusals in their order, and what follows them. Assumes nothing.
 use Prim.Native.Nat.{ℕ, ◌≤◌}
-use mathlib.Core.Path.{◌≡◌, refl, sym, ap, ◌∙◌}
+use mathlib.Core.Path.{◌≡◌, refl, sym, ◌∙◌}
 use mathlib.Core.Bool.{Bool, true, false}
 use mathlib.Core.List.{List}
-use native.Mathlib.Omega.{arith}
 use lib.ListN.{length}
 use Rattle.bits.proofs.Truth.{if_true, if_false, past, stopped}
 use Rattle.table.specs.State.{State}
@@ -11,7 +10,7 @@ use Rattle.table.specs.Sound.{sound}
 use Rattle.table.specs.Reading.{state}
 use Rattle.table.specs.Table.{table_length, is_table}
 use Rattle.table.proofs.Table.{is_table_lem}
-use Rattle.requests.specs.Request.{Ask, ask, Outcome, refuse}
+use Rattle.requests.specs.Request.{Ask, ask, refuse}
 use Rattle.rbac.specs.Roles.{Request, is_code, in_range, carries_bad_pair, decode, known, allowed, changed}
 use Rattle.rbac.specs.Guard.{served, checked, role_step, allowed_sound, changed_sound, sound_step}
 use Rattle.rbac.specs.Served.{Fit, Served}

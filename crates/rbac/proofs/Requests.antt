@@ -6,11 +6,10 @@ use mathlib.Core.Bool.{Bool, true, not}
 use mathlib.Core.List.{List}
 use native.Mathlib.Omega.{arith}
 use native.Mathlib.Nat.{le_of_suc-le-suc}
-use lib.ListN.{get_or}
 use borrow.Author.Tests.{le-leb}
 use Rattle.bits.specs.Words.{◌and◌, upd, has, ◌with◌}
 use Rattle.bits.specs.Sets.{each, ◌without◌}
-use Rattle.bits.proofs.Truth.{and_intro, true_and, and_true}
+use Rattle.bits.proofs.Truth.{true_and, and_true}
 use Rattle.table.specs.State.{State}
 use Rattle.table.specs.Authority.{idle, authorised, may_activate, effective}
 use Rattle.table.specs.Changes.{with_assigned, with_owner, with_active, with_holds}
@@ -27,7 +26,7 @@ use Rattle.separation.proofs.Parts.{empty_fits}
 use Rattle.sound.proofs.Parts.{deassign_ruled, deassigned}
 use Rattle.requests.specs.Request.{Ask, ask, decide}
 use Rattle.requests.proofs.Arguments.{within_intro}
-use Rattle.rbac.specs.Roles.{activates, limits, in_range, decode, known, moved}
+use Rattle.rbac.specs.Roles.{activates, limits, in_range, decode, known}
 use Rattle.rbac.specs.Guard.{role_step, allowed_sound, changed_sound}
 use Rattle.rbac.proofs.Codes.{is_code_lem, no_pair, ranged}
 use Rattle.rbac.proofs.Masks.{changed_same}

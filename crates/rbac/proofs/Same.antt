@@ -25,7 +25,7 @@ use Rattle.separation.proofs.Parts.{active_fits, assigned_fits, pair_fits_lem}
 use Rattle.sound.proofs.Parts.{drop_ruled, deassign_ruled, revoke_ruled}
 use Rattle.links.proofs.Links.{linkable_is, unlinkable_is}
 use Rattle.requests.specs.Request.{Ask, decide}
-use Rattle.rbac.specs.Roles.{Request, opens, closes, starts, ends, activates, drops, assigns, deassigns, grants, revokes, separates, links, unlinks, is_code, in_range, carries_bad_pair, decode, known, roles_allow, allowed, moved, changed}
+use Rattle.rbac.specs.Roles.{Request, opens, closes, starts, ends, activates, drops, assigns, deassigns, grants, revokes, separates, links, unlinks, is_code, in_range, carries_bad_pair, decode, known, roles_allow, allowed, changed}
 use Rattle.rbac.specs.Guard.{served, checked, role_step, allowed_sound, changed_sound, sound_step}
 use Rattle.rbac.specs.Served.{Ranged}
 use Rattle.rbac.proofs.Serving.{served_known, served_unknown}

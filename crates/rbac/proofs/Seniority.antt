@@ -32,7 +32,7 @@ use Rattle.table.proofs.Sound.{ruled_is, ruled_elim, ruled_intro, sound_ruled, m
 use Rattle.sound.specs.Answers.{is_sound}
 use Rattle.sound.proofs.Answers.{sound_state}
 use Rattle.requests.specs.Request.{Ask, ask}
-use Rattle.rbac.specs.Roles.{unlinks, limits, in_range, decode, known, roles_allow, allowed, moved, changed}
+use Rattle.rbac.specs.Roles.{unlinks, limits, in_range, decode, known, roles_allow, allowed, changed}
 use Rattle.rbac.specs.Guard.{role_step}
 use Rattle.rbac.specs.Claims.{after}
 use Rattle.rbac.specs.Seniority.{LinkMeans, UnlinkMeans, LinkTakesNothing, UnlinkKeepsOpenings, noted, recorded, recorded_links, SeniorityReached}

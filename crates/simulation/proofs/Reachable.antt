@@ -14,11 +14,9 @@ use Rattle.machine.specs.Wall.{final}
 use Rattle.machine.proofs.Tracing.{final_keeps}
 use Rattle.image.specs.Claims.{Ranged, Safe}
 use Rattle.image.proofs.Claims.{sound_image, image_means}
-use Rattle.image.proofs.Beginning.{accepted}
 use Rattle.simulation.specs.Claims.{Same, Reachable, ReachableImage, ReachableMeans}
 use Rattle.simulation.proofs.Simulation.{Good, next_good}
 use Rattle.simulation.proofs.Demand.{begin_good}
-use Rattle.simulation.proofs.Toward.{clearances, labels}
 use Rattle.simulation.proofs.Reaching.{safe_reached}
 
 module _ {m n : Machine} where

@@ -27,7 +27,6 @@ use Rattle.requests.proofs.Outcome.{decide_yes, decide_no}
 use Rattle.machine.proofs.Order.{dominates}
 use Rattle.machine.specs.Machine as machine
 use Rattle.machine.specs.Machine.{Machine, Seat, at, fits, with_clearance, reclearing, act}
-use Rattle.machine.proofs.Seats.{same_user_lem}
 use Rattle.machine.proofs.Steps.{act_reclearing}
 use Rattle.image.specs.Image.{cleared_roles, shown, image}
 use Rattle.image.specs.Test.{machine_of}

@@ -1,5 +1,4 @@
 -- `assign` meets its contract. Assumes nothing.
-use borrow.Author.Rules.{rules}
 use Prim.Native.Nat.{ℕ}
 use mathlib.Core.Path.{refl, ap, ◌∙◌}
 use lib.ListN.{set}
@@ -7,8 +6,6 @@ use borrow.Author.Tests.{not-true, not-false}
 use Rattle.table.specs.Reading.{assigned_at, state}
 use Rattle.table.proofs.Encode.{encode_state, write_assigned}
 use Rattle.separation.proofs.Sets.{static_told}
-use Rattle.rbac.specs.Roles.{moved}
-use Rattle.rbac.specs.Guard.{allowed_sound, changed_sound}
 use Rattle.rbac.proofs.Serving.{serve_yes, serve_no}
 use Rattle.administration.proofs.assign.Goals as goal
 

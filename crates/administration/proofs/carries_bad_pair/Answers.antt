@@ -1,5 +1,4 @@
 -- `carries_bad_pair` meets its contract. Assumes nothing.
-use borrow.Author.Rules.{rules}
 use mathlib.Core.Path.{sym, ◌∙◌}
 use native.Mathlib.Omega.{arith}
 use Rattle.rbac.proofs.Codes.{no_pair, no_pair_past, pair_carried}

@@ -1,7 +1,5 @@
 -- `perform` meets its contract: each arm's request is the one that the code decodes to. Assumes nothing.
-use borrow.Author.Rules.{rules}
 use Prim.Native.Nat.{◌+◌}
-use mathlib.Core.Path.{◌≡◌}
 use native.Mathlib.Omega.{arith}
 use Rattle.links.proofs.Links.{link_told, link_leaves, unlink_told, unlink_leaves}
 use Rattle.rbac.specs.Roles.{separates}
@@ -49,15 +47,15 @@ pub separate-requires : goal.separate-requires
 separate-requires c = fit_as (static_code _ _ _ c.in-11.is) c.requires.2
 
 pub overflow_add-a : goal.overflow_add-a
-overflow_add-a c = 
+overflow_add-a c =
     let dynamic : (let a = c.args in Fit a.t.now (separates (16 + a.a) a.b a.c)) =
-        fit_as (dynamic_code _ _ _ c.in-12.is) c.requires.2 in
+    fit_as (dynamic_code _ _ _ c.in-12.is) c.requires.2 in
     let h = dynamic.ranged.0 in omega arith
 
 pub separate-requires-in-12 : goal.separate-requires-in-12
-separate-requires-in-12 c = 
+separate-requires-in-12 c =
     let dynamic : (let a = c.args in Fit a.t.now (separates (16 + a.a) a.b a.c)) =
-        fit_as (dynamic_code _ _ _ c.in-12.is) c.requires.2 in
+    fit_as (dynamic_code _ _ _ c.in-12.is) c.requires.2 in
     dynamic
 
 pub returns-in-7 : goal.returns-in-7

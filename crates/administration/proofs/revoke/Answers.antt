@@ -1,5 +1,4 @@
 -- `revoke` meets its contract: the table without it, or the one that came. Assumes nothing.
-use borrow.Author.Rules.{rules}
 use Prim.Native.Nat.{ℕ}
 use mathlib.Core.Path.{◌≡◌, sym, ap, ◌∙◌}
 use mathlib.Core.Bool.{not}
@@ -12,7 +11,7 @@ use Rattle.table.proofs.Encode.{encode_state, write_granted}
 use Rattle.masks.proofs.Refreshing.{pair_shown}
 use Rattle.sound.proofs.Answers.{holders_shown}
 use Rattle.rbac.specs.Roles.{revokes, moved}
-use Rattle.rbac.specs.Guard.{allowed_sound, changed_sound}
+use Rattle.rbac.specs.Guard.{allowed_sound}
 use Rattle.rbac.proofs.Serving.{serve_yes, put_back}
 use Rattle.administration.proofs.revoke.Goals as goal
 
@@ -20,7 +19,7 @@ pub returns-then-not-has : goal.returns-then-not-has
 returns-then-not-has c =
     let written : (let a = c.args in
     set a.t.now (granted_at a.x a.o) c.without-less.result ≡ encode (moved (state a.t.now) (revokes a.r a.x a.o))) =
-        let a = c.args in
+    let a = c.args in
     let p = c.requires in
     ap (λ (v : ℕ). set a.t.now (granted_at a.x a.o) v) c.without-less.ensures
     ∙ write_granted (state a.t.now) (encode_state a.t.now p.whole) a.x a.o _ p.ranged.1 p.ranged.2 in
@@ -31,12 +30,12 @@ pub returns-then-holders_fit : goal.returns-then-holders_fit
 returns-then-holders_fit c =
     let written : (let a = c.args in
     set a.t.now (granted_at a.x a.o) c.without-less.result ≡ encode (moved (state a.t.now) (revokes a.r a.x a.o))) =
-        let a = c.args in
+    let a = c.args in
     let p = c.requires in
     ap (λ (v : ℕ). set a.t.now (granted_at a.x a.o) v) c.without-less.ensures
     ∙ write_granted (state a.t.now) (encode_state a.t.now p.whole) a.x a.o _ p.ranged.1 p.ranged.2 in
     let told : (let a = c.args in c.holders_fit.result ≡ allowed_sound (state a.t.now) (revokes a.r a.x a.o)) =
-        let a = c.args in
+    let a = c.args in
     let p = c.requires in
     c.holders_fit.ensures
     ∙ holders_shown _ written a.x a.o p.ranged.1 p.ranged.2
@@ -52,12 +51,12 @@ pub returns : goal.returns
 returns c =
     let written : (let a = c.args in
     set a.t.now (granted_at a.x a.o) c.without-less.result ≡ encode (moved (state a.t.now) (revokes a.r a.x a.o))) =
-        let a = c.args in
+    let a = c.args in
     let p = c.requires in
     ap (λ (v : ℕ). set a.t.now (granted_at a.x a.o) v) c.without-less.ensures
     ∙ write_granted (state a.t.now) (encode_state a.t.now p.whole) a.x a.o _ p.ranged.1 p.ranged.2 in
     let told : (let a = c.args in c.holders_fit.result ≡ allowed_sound (state a.t.now) (revokes a.r a.x a.o)) =
-        let a = c.args in
+    let a = c.args in
     let p = c.requires in
     c.holders_fit.ensures
     ∙ holders_shown _ written a.x a.o p.ranged.1 p.ranged.2

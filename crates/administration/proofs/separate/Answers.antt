@@ -1,5 +1,4 @@
 -- `separate` meets its contract. Assumes nothing.
-use borrow.Author.Rules.{rules}
 use Prim.Native.Nat.{◌*◌, ◌+◌}
 use mathlib.Core.Path.{refl, ◌∙◌}
 use native.Mathlib.Omega.{arith}
@@ -8,8 +7,6 @@ use Rattle.bits.proofs.Truth.{confirmed, refuted}
 use Rattle.table.specs.Reading.{state}
 use Rattle.table.proofs.Encode.{encode_state, write_sets}
 use Rattle.separation.proofs.Sets.{pair_holds_are}
-use Rattle.rbac.specs.Roles.{moved}
-use Rattle.rbac.specs.Guard.{allowed_sound, changed_sound}
 use Rattle.rbac.proofs.Serving.{serve_yes, serve_no}
 use Rattle.administration.proofs.separate.Goals as goal
 

@@ -1,5 +1,4 @@
 -- `serve_code` meets its contract: the refusals of a length, an argument, a set and a pair, then the request. Assumes nothing.
-use borrow.Author.Rules.{rules}
 use mathlib.Core.Path.{◌≡◌, sym, ◌∙◌}
 use native.Mathlib.Omega.{arith}
 use Rattle.bits.proofs.Truth.{confirmed, refuted}
@@ -17,7 +16,7 @@ use Rattle.administration.proofs.serve_code.Goals as goal
 pub returns-then-not-in_range : goal.returns-then-not-in_range
 returns-then-not-in_range c =
     let told : (let a = c.args in c.in_range.result ≡ in_range (ask a.code a.a a.b a.c)) =
-        let p = c.requires in let l = p.0 in range_told _ c.in_range.ensures (omega arith) p.1 in
+    let p = c.requires in let l = p.0 in range_told _ c.in_range.ensures (omega arith) p.1 in
     let p = c.requires in
     let l = p.0 in
     both (comes_to
@@ -28,7 +27,7 @@ returns-then-not-in_range c =
 pub returns-then-carries_bad_pair : goal.returns-then-carries_bad_pair
 returns-then-carries_bad_pair c =
     let told : (let a = c.args in c.in_range.result ≡ in_range (ask a.code a.a a.b a.c)) =
-        let p = c.requires in let l = p.0 in range_told _ c.in_range.ensures (omega arith) p.1 in
+    let p = c.requires in let l = p.0 in range_told _ c.in_range.ensures (omega arith) p.1 in
     let p = c.requires in
     let l = p.0 in
     both (comes_to
@@ -40,9 +39,9 @@ returns-then-carries_bad_pair c =
 pub is_known-requires : goal.is_known-requires
 is_known-requires c =
     let told : (let a = c.args in c.in_range.result ≡ in_range (ask a.code a.a a.b a.c)) =
-        let p = c.requires in let l = p.0 in range_told _ c.in_range.ensures (omega arith) p.1 in
+    let p = c.requires in let l = p.0 in range_told _ c.in_range.ensures (omega arith) p.1 in
     let passed : (let a = c.args in Ready a.t.now a.code a.a a.b a.c) =
-        let a = c.args in
+    let a = c.args in
     let p = c.requires in
     let l = p.0 in
     ready a.t.now a.code a.a a.b a.c c.if-t-ne-WORDS.false (omega arith) p.1
@@ -53,16 +52,16 @@ is_known-requires c =
 pub returns-then-not-is_known : goal.returns-then-not-is_known
 returns-then-not-is_known c =
     let told : (let a = c.args in c.in_range.result ≡ in_range (ask a.code a.a a.b a.c)) =
-        let p = c.requires in let l = p.0 in range_told _ c.in_range.ensures (omega arith) p.1 in
+    let p = c.requires in let l = p.0 in range_told _ c.in_range.ensures (omega arith) p.1 in
     let passed : (let a = c.args in Ready a.t.now a.code a.a a.b a.c) =
-        let a = c.args in
+    let a = c.args in
     let p = c.requires in
     let l = p.0 in
     ready a.t.now a.code a.a a.b a.c c.if-t-ne-WORDS.false (omega arith) p.1
     (confirmed told c.if-not-in_range.false-raw) (pair_alone a.code a.a a.b a.c ∙ sym c.carries_bad_pair.ensures ∙ c.if-carries_bad_pair.false) in
     let pair-told : (let a = c.args in
     c.is_known.result ≡ known (state a.t.now) (decode (ask a.code a.a a.b a.c))) =
-        let p = c.requires in
+    let p = c.requires in
     let l = p.0 in
     c.is_known.ensures ∙ sym (known_pair _ _ _ _ _ (omega arith) p.1) in
     both (comes_to
@@ -72,9 +71,9 @@ returns-then-not-is_known c =
 pub perform-requires : goal.perform-requires
 perform-requires c =
     let told : (let a = c.args in c.in_range.result ≡ in_range (ask a.code a.a a.b a.c)) =
-        let p = c.requires in let l = p.0 in range_told _ c.in_range.ensures (omega arith) p.1 in
+    let p = c.requires in let l = p.0 in range_told _ c.in_range.ensures (omega arith) p.1 in
     let passed : (let a = c.args in Ready a.t.now a.code a.a a.b a.c) =
-        let a = c.args in
+    let a = c.args in
     let p = c.requires in
     let l = p.0 in
     ready a.t.now a.code a.a a.b a.c c.if-t-ne-WORDS.false (omega arith) p.1
@@ -85,16 +84,16 @@ perform-requires c =
 pub returns-in-true : goal.returns-in-true
 returns-in-true c =
     let told : (let a = c.args in c.in_range.result ≡ in_range (ask a.code a.a a.b a.c)) =
-        let p = c.requires in let l = p.0 in range_told _ c.in_range.ensures (omega arith) p.1 in
+    let p = c.requires in let l = p.0 in range_told _ c.in_range.ensures (omega arith) p.1 in
     let passed : (let a = c.args in Ready a.t.now a.code a.a a.b a.c) =
-        let a = c.args in
+    let a = c.args in
     let p = c.requires in
     let l = p.0 in
     ready a.t.now a.code a.a a.b a.c c.if-t-ne-WORDS.false (omega arith) p.1
     (confirmed told c.if-not-in_range.false-raw) (pair_alone a.code a.a a.b a.c ∙ sym c.carries_bad_pair.ensures ∙ c.if-carries_bad_pair.false) in
     let pair-told : (let a = c.args in
     c.is_known.result ≡ known (state a.t.now) (decode (ask a.code a.a a.b a.c))) =
-        let p = c.requires in
+    let p = c.requires in
     let l = p.0 in
     c.is_known.ensures ∙ sym (known_pair _ _ _ _ _ (omega arith) p.1) in
     both (comes_to passed.step (served_yes (confirmed pair-told c.if-not-is_known.false-raw) c.perform.ensures c.in-true.is))
@@ -102,16 +101,16 @@ returns-in-true c =
 pub returns-in-false : goal.returns-in-false
 returns-in-false c =
     let told : (let a = c.args in c.in_range.result ≡ in_range (ask a.code a.a a.b a.c)) =
-        let p = c.requires in let l = p.0 in range_told _ c.in_range.ensures (omega arith) p.1 in
+    let p = c.requires in let l = p.0 in range_told _ c.in_range.ensures (omega arith) p.1 in
     let passed : (let a = c.args in Ready a.t.now a.code a.a a.b a.c) =
-        let a = c.args in
+    let a = c.args in
     let p = c.requires in
     let l = p.0 in
     ready a.t.now a.code a.a a.b a.c c.if-t-ne-WORDS.false (omega arith) p.1
     (confirmed told c.if-not-in_range.false-raw) (pair_alone a.code a.a a.b a.c ∙ sym c.carries_bad_pair.ensures ∙ c.if-carries_bad_pair.false) in
     let pair-told : (let a = c.args in
     c.is_known.result ≡ known (state a.t.now) (decode (ask a.code a.a a.b a.c))) =
-        let p = c.requires in
+    let p = c.requires in
     let l = p.0 in
     c.is_known.ensures ∙ sym (known_pair _ _ _ _ _ (omega arith) p.1) in
     both (comes_to passed.step (served_no (confirmed pair-told c.if-not-is_known.false-raw) c.perform.ensures c.in-false.is))

@@ -1,12 +1,9 @@
 -- The goals that are left.
-use borrow.Author.Rules.{rules}
-use Prim.Native.Nat.{◌-◌}
-use mathlib.Core.Path.{◌≡◌, sym, ◌∙◌}
-use mathlib.Core.Bool.{true}
+use mathlib.Core.Path.{sym, ◌∙◌}
 use borrow.Author.Tests.{eq-eqb, ne_eqb}
 use Rattle.bits.proofs.Truth.{and_intro, false_and, and_false}
-use Rattle.bits.proofs.Below.{all_intro, all_fails, widen, Passed, passed_none, passed_more, passed_all}
-use Rattle.alike.proofs.Likeness.{same_words, same_words_lem}
+use Rattle.bits.proofs.Below.{all_intro, all_fails, widen, passed_none, passed_more, passed_all}
+use Rattle.alike.proofs.Likeness.{same_words_lem}
 use Rattle.alike.proofs.same_sessions.Goals as goal
 
 pub returns-then-first-i : goal.returns-then-first-i

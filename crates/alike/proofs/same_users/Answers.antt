@@ -1,12 +1,7 @@
 -- The goals that are left.
-use borrow.Author.Rules.{rules}
-use Prim.Native.Nat.{◌-◌}
-use mathlib.Core.Path.{◌≡◌, sym, ◌∙◌}
-use mathlib.Core.Bool.{true}
+use mathlib.Core.Path.{sym, ◌∙◌}
 use borrow.Author.Tests.{eq-eqb, ne_eqb}
-use Rattle.bits.proofs.Below.{all_intro, all_fails, widen, Passed, passed_none, passed_more, passed_all}
-use Rattle.table.specs.Reading.{state}
-use Rattle.alike.specs.Likeness.{same_user}
+use Rattle.bits.proofs.Below.{all_intro, all_fails, widen, passed_none, passed_more, passed_all}
 use Rattle.alike.proofs.Likeness.{same_read}
 use Rattle.alike.proofs.same_users.Goals as goal
 

@@ -1,12 +1,7 @@
 -- The goals that are left.
-use borrow.Author.Rules.{rules}
-use Prim.Native.Nat.{◌-◌, ◌≤◌}
 use mathlib.Core.Path.{◌≡◌, refl, ◌∙◌}
 use native.Mathlib.Omega.{arith}
-use lib.ListN.{length, get_or}
-use Rattle.bits.specs.Words.{◌with◌, tabulate}
-use Rattle.bits.proofs.Tabulate.{Filling, fill_start, fill_step, fill_end}
-use Rattle.closure.specs.Closure.{through}
+use Rattle.bits.proofs.Tabulate.{fill_start, fill_step, fill_end}
 use Rattle.closure.proofs.Closure.{through_none, through_more, closed}
 use Rattle.closure.proofs.closure_of.Goals as goal
 

@@ -1,13 +1,10 @@
 -- `closure_of` meets its contract: each role with its direct juniors and itself, then by way of the roles passed. Assumes nothing.
-use borrow.Author.Rules.{rules}
-use Prim.Native.Nat.{◌-◌, ◌≤◌}
-use mathlib.Core.Path.{◌≡◌, refl, ◌∙◌}
-use native.Mathlib.Omega.{arith}
+use Prim.Native.Nat.{◌≤◌}
+use mathlib.Core.Path.{◌≡◌}
 use lib.ListN.{length, get_or}
 use Rattle.bits.specs.Words.{◌with◌, tabulate}
-use Rattle.bits.proofs.Tabulate.{Filling, fill_start, fill_step, fill_end}
+use Rattle.bits.proofs.Tabulate.{Filling}
 use Rattle.closure.specs.Closure.{through}
-use Rattle.closure.proofs.Closure.{through_none, through_more, closed}
 use Rattle.closure.proofs.closure_of.Given as goal
 
 abbrev pub invariant-loop-r : goal.invariant-loop-r

@@ -1,14 +1,7 @@
 -- The goals that are left.
-use borrow.Author.Rules.{rules}
-use Prim.Native.Nat.{◌-◌}
-use mathlib.Core.Path.{◌≡◌, sym}
-use mathlib.Core.Bool.{true}
-use lib.Dec.{eqb}
-use lib.ListN.{get_or}
-use Rattle.bits.specs.Words.{◌implies◌, has}
-use Rattle.bits.specs.Sets.{each}
+use mathlib.Core.Path.{sym}
 use Rattle.bits.proofs.Truth.{confirmed, refuted}
-use Rattle.bits.proofs.Below.{all_intro, all_fails, Passed, passed_none, passed_more, passed_all}
+use Rattle.bits.proofs.Below.{all_intro, all_fails, passed_none, passed_more, passed_all}
 use Rattle.closure.specs.Closure.{acyclic}
 use Rattle.closure.proofs.is_acyclic.Goals as goal
 

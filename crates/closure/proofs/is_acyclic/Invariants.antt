@@ -1,15 +1,11 @@
 -- `is_acyclic` meets its contract: the roles passed are apart from the others. Assumes nothing.
-use borrow.Author.Rules.{rules}
-use Prim.Native.Nat.{◌-◌}
-use mathlib.Core.Path.{◌≡◌, sym}
+use mathlib.Core.Path.{◌≡◌}
 use mathlib.Core.Bool.{true}
 use lib.Dec.{eqb}
 use lib.ListN.{get_or}
 use Rattle.bits.specs.Words.{◌implies◌, has}
 use Rattle.bits.specs.Sets.{each}
-use Rattle.bits.proofs.Truth.{confirmed, refuted}
-use Rattle.bits.proofs.Below.{all_intro, all_fails, Passed, passed_none, passed_more, passed_all}
-use Rattle.closure.specs.Closure.{acyclic}
+use Rattle.bits.proofs.Below.{Passed}
 use Rattle.closure.proofs.is_acyclic.Given as goal
 
 abbrev pub invariant-loop-r : goal.invariant-loop-r

@@ -1,12 +1,11 @@
 -- The goals that are left.
-use borrow.Author.Rules.{rules}
-use Prim.Native.Nat.{ℕ, ◌-◌, ◌≤◌, ◌<◌}
+use Prim.Native.Nat.{ℕ, ◌<◌}
 use mathlib.Core.Path.{refl, sym, ap, ◌∙◌}
 use native.Mathlib.Omega.{arith}
 use lib.ListN.{length, get_or}
 use Rattle.bits.specs.Words.{when◌then◌else◌, has, tabulate}
 use Rattle.bits.specs.Sets.{join}
-use Rattle.bits.proofs.Tabulate.{Writing, write_start, write_step, write_end}
+use Rattle.bits.proofs.Tabulate.{write_start, write_step, write_end}
 use Rattle.closure.specs.Closure.{via}
 use Rattle.closure.proofs.Closure.{passed, via_none}
 use Rattle.closure.proofs.pass_through.Goals as goal

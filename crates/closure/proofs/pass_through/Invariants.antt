@@ -1,14 +1,7 @@
 -- `pass_through` meets its contract: nothing is to hand on, or the rows passed have what k has. Assumes nothing.
-use borrow.Author.Rules.{rules}
-use Prim.Native.Nat.{ℕ, ◌-◌, ◌≤◌, ◌<◌}
-use mathlib.Core.Path.{refl, sym, ap, ◌∙◌}
-use native.Mathlib.Omega.{arith}
-use lib.ListN.{length, get_or}
-use Rattle.bits.specs.Words.{when◌then◌else◌, has, tabulate}
-use Rattle.bits.specs.Sets.{join}
-use Rattle.bits.proofs.Tabulate.{Writing, write_start, write_step, write_end}
-use Rattle.closure.specs.Closure.{via}
-use Rattle.closure.proofs.Closure.{passed, via_none}
+use Prim.Native.Nat.{◌≤◌}
+use Rattle.bits.proofs.Tabulate.{Writing}
+use Rattle.closure.proofs.Closure.{passed}
 use Rattle.closure.proofs.pass_through.Given as goal
 
 abbrev pub invariant-loop-r : goal.invariant-loop-r

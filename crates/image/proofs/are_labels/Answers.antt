@@ -1,12 +1,8 @@
 -- The goals that are left.
-use borrow.Author.Rules.{rules}
-use Prim.Native.Nat.{◌-◌, suc-le-suc}
-use mathlib.Core.Path.{◌≡◌, sym}
-use mathlib.Core.Bool.{true}
-use lib.Dec.{ltb}
-use lib.ListN.{get_or}
+use Prim.Native.Nat.{suc-le-suc}
+use mathlib.Core.Path.{sym}
 use borrow.Author.Tests.{lt-ltb, le-ltb}
-use Rattle.bits.proofs.Below.{all_intro, all_fails, Passed, passed_none, passed_more, passed_all}
+use Rattle.bits.proofs.Below.{all_intro, all_fails, passed_none, passed_more, passed_all}
 use Rattle.image.specs.SetUp.{are_labels}
 use Rattle.image.proofs.are_labels.Goals as goal
 

@@ -1,11 +1,6 @@
 -- The goals that are left.
-use borrow.Author.Rules.{rules}
-use Prim.Native.Nat.{◌-◌}
 use mathlib.Core.Path.{refl}
-use lib.ListN.{get_or}
-use Rattle.bits.proofs.Below.{widen}
-use Rattle.bits.proofs.Tabulate.{Filling, fill_start, fill_step, fill_end}
-use Rattle.image.specs.Image.{cleared_roles}
+use Rattle.bits.proofs.Tabulate.{fill_start, fill_step, fill_end}
 use Rattle.image.proofs.assigned_words.Goals as goal
 
 pub loop-u-init : goal.loop-u-init

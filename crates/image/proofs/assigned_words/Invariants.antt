@@ -1,10 +1,6 @@
 -- `assigned_words` meets its contract: the users passed have the roles of their clearance. Assumes nothing.
-use borrow.Author.Rules.{rules}
-use Prim.Native.Nat.{◌-◌}
-use mathlib.Core.Path.{refl}
 use lib.ListN.{get_or}
-use Rattle.bits.proofs.Below.{widen}
-use Rattle.bits.proofs.Tabulate.{Filling, fill_start, fill_step, fill_end}
+use Rattle.bits.proofs.Tabulate.{Filling}
 use Rattle.image.specs.Image.{cleared_roles}
 use Rattle.image.proofs.assigned_words.Given as goal
 

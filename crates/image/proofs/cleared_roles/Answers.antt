@@ -1,5 +1,4 @@
 -- `cleared_roles` meets its contract. Assumes nothing.
-use borrow.Author.Rules.{rules}
 use Prim.Native.Nat.{ℕ}
 use mathlib.Core.Path.{ap, ◌∙◌}
 use Rattle.bits.specs.Words.{◌with◌}

@@ -1,12 +1,8 @@
 -- `granted_words` meets its contract: the objects passed have the role of their label. Assumes nothing.
-use borrow.Author.Rules.{rules}
-use Prim.Native.Nat.{◌+◌, ◌-◌}
-use mathlib.Core.Path.{refl}
-use native.Mathlib.Omega.{arith}
+use Prim.Native.Nat.{◌+◌}
 use lib.ListN.{get_or}
 use Rattle.bits.specs.Words.{◌with◌}
-use Rattle.bits.proofs.Below.{widen}
-use Rattle.bits.proofs.Tabulate.{Filling, fill_start, fill_step, fill_end}
+use Rattle.bits.proofs.Tabulate.{Filling}
 use Rattle.image.proofs.granted_words.Given as goal
 
 abbrev pub invariant-loop-o : goal.invariant-loop-o

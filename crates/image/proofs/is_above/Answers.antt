@@ -1,5 +1,4 @@
 -- `is_above` meets its contract. Assumes nothing.
-use borrow.Author.Rules.{rules}
 use mathlib.Core.Path.{sym, ap, ◌∙◌}
 use Rattle.machine.specs.Label.{equal_or_above}
 use Rattle.image.proofs.Above.{above_reads, above_no_write, above_writes, above_no_read}

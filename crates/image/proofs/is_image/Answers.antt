@@ -1,5 +1,4 @@
 -- `is_image` meets its contract: the six parts of the test in order. Assumes nothing.
-use borrow.Author.Rules.{rules}
 use mathlib.Core.Path.{sym, ◌∙◌}
 use Rattle.bits.proofs.Truth.{confirmed, refuted, true_and, false_and}
 use Rattle.table.proofs.Table.{is_table_lem, not_table}

@@ -1,11 +1,7 @@
 -- The goals that are left.
-use borrow.Author.Rules.{rules}
-use Prim.Native.Nat.{◌-◌}
 use mathlib.Core.Path.{sym, ◌∙◌}
-use mathlib.Core.Logic.{⊎_elim}
 use native.Mathlib.Omega.{arith}
-use Rattle.bits.proofs.Walk.{Packing, packing_start, packing_take, packing_pass, packing_end}
-use Rattle.image.specs.Image.{above}
+use Rattle.bits.proofs.Walk.{packing_start, packing_take, packing_pass, packing_end}
 use Rattle.image.proofs.junior_roles.Goals as goal
 use Rattle.image.proofs.junior_roles.Goals.{then-is_above, else-is_above}
 
@@ -14,8 +10,8 @@ loop-q-preserved c =
     let k = c.loop-q.invariant in
     let h = c.loop-q-test.true in
     elim c.if-is_above.branch [
-      then-is_above w ↦ packing_take k h (omega arith) (sym c.is_above.ensures ∙ w.if-is_above.true) (w.found-is ∙ w.with-found.ensures)
-    | else-is_above w ↦ packing_pass k h (sym c.is_above.ensures ∙ w.if-is_above.false) w.found-is
+      | then-is_above w ↦ packing_take k h (omega arith) (sym c.is_above.ensures ∙ w.if-is_above.true) (w.found-is ∙ w.with-found.ensures)
+      | else-is_above w ↦ packing_pass k h (sym c.is_above.ensures ∙ w.if-is_above.false) w.found-is
     ]
 
 pub loop-q-init : goal.loop-q-init

@@ -1,5 +1,4 @@
 -- `label_setup` meets its contract: the refusals in their order, then the image. Assumes nothing.
-use borrow.Author.Rules.{rules}
 use mathlib.Core.Path.{refl}
 use borrow.Author.Tests.{ne_eqb}
 use Rattle.bits.proofs.Truth.{confirmed, refuted, false_and, and_false}

@@ -1,14 +1,11 @@
 -- `levels_fit` meets its contract: the sessions passed have the roles of their level. Assumes nothing.
-use borrow.Author.Rules.{rules}
-use Prim.Native.Nat.{◌-◌}
-use mathlib.Core.Path.{◌≡◌, sym, ◌∙◌}
+use mathlib.Core.Path.{◌≡◌}
 use mathlib.Core.Bool.{true}
 use lib.Dec.{eqb}
-use borrow.Author.Tests.{eq-eqb, ne_eqb}
-use Rattle.bits.proofs.Below.{all_intro, all_fails, Passed, passed_none, passed_more, passed_all}
+use Rattle.bits.proofs.Below.{Passed}
 use Rattle.table.specs.Reading.{state}
 use Rattle.image.specs.Image.{seat_roles}
-use Rattle.image.specs.Test.{machine_of, levels_fit}
+use Rattle.image.specs.Test.{machine_of}
 use Rattle.image.proofs.levels_fit.Given as goal
 
 abbrev pub invariant-loop-s : goal.invariant-loop-s

@@ -1,14 +1,9 @@
 -- The goals that are left.
-use borrow.Author.Rules.{rules}
-use Prim.Native.Nat.{◌-◌}
-use mathlib.Core.Path.{◌≡◌, sym, ◌∙◌}
-use mathlib.Core.Bool.{true}
-use lib.Dec.{eqb}
+use mathlib.Core.Path.{sym, ◌∙◌}
 use borrow.Author.Tests.{eq-eqb, ne_eqb}
-use Rattle.bits.proofs.Below.{all_intro, all_fails, Passed, passed_none, passed_more, passed_all}
-use Rattle.table.specs.Reading.{state}
+use Rattle.bits.proofs.Below.{all_intro, all_fails, passed_none, passed_more, passed_all}
 use Rattle.image.specs.Test.{links_fit}
-use Rattle.image.proofs.Rows.{linked, row_is}
+use Rattle.image.proofs.Rows.{row_is}
 use Rattle.image.proofs.links_fit.Goals as goal
 
 pub returns-then-t-r : goal.returns-then-t-r

@@ -1,14 +1,10 @@
 -- The goals that are left.
-use borrow.Author.Rules.{rules}
-use Prim.Native.Nat.{ℕ, ◌+◌, ◌-◌}
-use mathlib.Core.Path.{◌≡◌, sym, ap, ◌∙◌}
-use mathlib.Core.Bool.{true}
-use lib.Dec.{eqb}
+use Prim.Native.Nat.{ℕ, ◌+◌}
+use mathlib.Core.Path.{sym, ap, ◌∙◌}
 use borrow.Author.Tests.{eq-eqb, ne_eqb}
-use Rattle.bits.specs.Words.{◌and◌, ◌with◌}
+use Rattle.bits.specs.Words.{◌with◌}
 use Rattle.bits.proofs.Truth.{and_intro, false_and, and_false}
-use Rattle.bits.proofs.Below.{all_intro, all_fails, Passed, passed_none, passed_more, passed_all}
-use Rattle.table.specs.Reading.{state}
+use Rattle.bits.proofs.Below.{all_intro, all_fails, passed_none, passed_more, passed_all}
 use Rattle.image.specs.Image.{granted_roles}
 use Rattle.image.specs.Test.{machine_of, objects_fit}
 use Rattle.image.proofs.objects_fit.Goals as goal

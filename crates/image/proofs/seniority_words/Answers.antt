@@ -1,10 +1,6 @@
 -- The goals that are left.
-use borrow.Author.Rules.{rules}
-use Prim.Native.Nat.{◌-◌}
 use mathlib.Core.Path.{refl}
-use Rattle.bits.specs.Words.{pack}
-use Rattle.bits.proofs.Tabulate.{Filling, fill_start, fill_step, fill_end}
-use Rattle.image.specs.Image.{above}
+use Rattle.bits.proofs.Tabulate.{fill_start, fill_step, fill_end}
 use Rattle.image.proofs.seniority_words.Goals as goal
 
 pub loop-r-init : goal.loop-r-init

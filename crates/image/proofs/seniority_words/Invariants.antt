@@ -1,9 +1,6 @@
 -- `seniority_words` meets its contract: the roles passed have their juniors. Assumes nothing.
-use borrow.Author.Rules.{rules}
-use Prim.Native.Nat.{◌-◌}
-use mathlib.Core.Path.{refl}
 use Rattle.bits.specs.Words.{pack}
-use Rattle.bits.proofs.Tabulate.{Filling, fill_start, fill_step, fill_end}
+use Rattle.bits.proofs.Tabulate.{Filling}
 use Rattle.image.specs.Image.{above}
 use Rattle.image.proofs.seniority_words.Given as goal
 

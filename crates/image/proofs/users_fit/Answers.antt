@@ -1,12 +1,7 @@
 -- The goals that are left.
-use borrow.Author.Rules.{rules}
-use Prim.Native.Nat.{◌-◌}
-use mathlib.Core.Path.{◌≡◌, sym, ap, ◌∙◌}
-use mathlib.Core.Bool.{true}
-use lib.Dec.{eqb}
+use mathlib.Core.Path.{sym, ap, ◌∙◌}
 use borrow.Author.Tests.{eq-eqb, ne_eqb}
-use Rattle.bits.proofs.Below.{all_intro, all_fails, Passed, passed_none, passed_more, passed_all}
-use Rattle.table.specs.Reading.{state}
+use Rattle.bits.proofs.Below.{all_intro, all_fails, passed_none, passed_more, passed_all}
 use Rattle.image.specs.Image.{cleared_roles}
 use Rattle.image.specs.Test.{machine_of, users_fit}
 use Rattle.image.proofs.users_fit.Goals as goal

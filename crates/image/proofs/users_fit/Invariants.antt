@@ -1,14 +1,11 @@
 -- `users_fit` meets its contract: the users passed have the roles of their clearance. Assumes nothing.
-use borrow.Author.Rules.{rules}
-use Prim.Native.Nat.{◌-◌}
-use mathlib.Core.Path.{◌≡◌, sym, ap, ◌∙◌}
+use mathlib.Core.Path.{◌≡◌}
 use mathlib.Core.Bool.{true}
 use lib.Dec.{eqb}
-use borrow.Author.Tests.{eq-eqb, ne_eqb}
-use Rattle.bits.proofs.Below.{all_intro, all_fails, Passed, passed_none, passed_more, passed_all}
+use Rattle.bits.proofs.Below.{Passed}
 use Rattle.table.specs.Reading.{state}
 use Rattle.image.specs.Image.{cleared_roles}
-use Rattle.image.specs.Test.{machine_of, users_fit}
+use Rattle.image.specs.Test.{machine_of}
 use Rattle.image.proofs.users_fit.Given as goal
 
 abbrev pub invariant-loop-u : goal.invariant-loop-u

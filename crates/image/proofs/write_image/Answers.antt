@@ -1,5 +1,4 @@
 -- `write_image` meets its contract: six sections written and the rest cleared. Assumes nothing.
-use borrow.Author.Rules.{rules}
 use Prim.Native.Nat.{ℕ}
 use mathlib.Core.Path.{ap, ap₂, ◌∙◌}
 use mathlib.Core.List.{List}

@@ -1,5 +1,4 @@
 -- `perform` meets its contract: each code is that of its request. Assumes nothing.
-use borrow.Author.Rules.{rules}
 use Prim.Native.Nat.{ℕ}
 use mathlib.Core.Path.{sym, ap}
 use Rattle.requests.specs.Request.{ask}

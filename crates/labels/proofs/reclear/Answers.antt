@@ -1,5 +1,4 @@
 -- `reclear` meets its contract: no role request, two, or three. Assumes nothing.
-use borrow.Author.Rules.{rules}
 use mathlib.Core.Path.{refl}
 use Rattle.labels.proofs.Making.{same_clearance, not_recleared, is_recleared}
 use Rattle.labels.proofs.Replying.{reply}

@@ -1,5 +1,4 @@
 -- `request` meets its contract: the refusals in their order, then the request on a sound image. Assumes nothing.
-use borrow.Author.Rules.{rules}
 use mathlib.Core.Path.{sym}
 use Rattle.bits.proofs.Truth.{confirmed, refuted}
 use Rattle.table.proofs.Table.{is_table_lem, not_table}

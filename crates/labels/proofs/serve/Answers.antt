@@ -1,5 +1,4 @@
 -- `serve` meets its contract: the refusals of a length and of a code, and an arm for each code. Assumes nothing.
-use borrow.Author.Rules.{rules}
 use mathlib.Core.Path.{refl, ◌∙◌}
 use native.Mathlib.Omega.{arith}
 use Rattle.table.proofs.Table.{is_table_lem, not_table}

@@ -1,5 +1,4 @@
 -- `serve_code` meets its contract: the refusal of an argument, then the request. Assumes nothing.
-use borrow.Author.Rules.{rules}
 use mathlib.Core.Path.{◌≡◌, ◌∙◌}
 use Rattle.bits.proofs.Truth.{confirmed, refuted}
 use Rattle.table.proofs.Table.{is_table_lem}
@@ -15,7 +14,7 @@ pub returns-then-not-within : goal.returns-then-not-within
 unfolding in_range
 returns-then-not-within c =
     let told : (let a = c.args in c.within.result ≡ in_range (ask a.code a.a a.b a.c)) =
-        let a = c.args in within_row a.code a.a a.b a.c c.within.ensures c.requires.3 in
+    let a = c.args in within_row a.code a.a a.b a.c c.within.ensures c.requires.3 in
     let a = c.args in
     let p = c.requires in
     let q = ask a.code a.a a.b a.c in
@@ -28,7 +27,7 @@ pub perform-requires : goal.perform-requires
 unfolding in_range
 perform-requires c =
     let told : (let a = c.args in c.within.result ≡ in_range (ask a.code a.a a.b a.c)) =
-        let a = c.args in within_row a.code a.a a.b a.c c.within.ensures c.requires.3 in
+    let a = c.args in within_row a.code a.a a.b a.c c.within.ensures c.requires.3 in
     let p = c.requires in
     (p.0, p.1, p.2, confirmed told c.if-not-within.false-raw)
 
@@ -36,7 +35,7 @@ pub returns : goal.returns
 unfolding in_range
 returns c =
     let told : (let a = c.args in c.within.result ≡ in_range (ask a.code a.a a.b a.c)) =
-        let a = c.args in within_row a.code a.a a.b a.c c.within.ensures c.requires.3 in
+    let a = c.args in within_row a.code a.a a.b a.c c.within.ensures c.requires.3 in
     let a = c.args in
     let p = c.requires in
     clauses (replied_as

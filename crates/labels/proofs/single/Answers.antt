@@ -1,5 +1,4 @@
 -- `single` meets its contract. Assumes nothing.
-use borrow.Author.Rules.{rules}
 use mathlib.Core.Path.{refl}
 use Rattle.labels.proofs.Carrying.{single_carried}
 use Rattle.labels.proofs.Replying.{reply}

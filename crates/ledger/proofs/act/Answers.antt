@@ -1,5 +1,4 @@
 -- `act` meets its contract, by what is due. Assumes nothing.
-use borrow.Author.Rules.{rules}
 use mathlib.Core.Path.{refl}
 use Rattle.ledger.specs.Store.{store}
 use Rattle.ledger.specs.Step.{put, performed}

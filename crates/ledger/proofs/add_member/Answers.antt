@@ -1,5 +1,4 @@
 -- `add_member` meets its contract. Assumes nothing.
-use borrow.Author.Rules.{rules}
 use Rattle.ledger.proofs.Listing.{added_place, added_value, added_there, added_past}
 use Rattle.ledger.proofs.add_member.Goals as goal
 

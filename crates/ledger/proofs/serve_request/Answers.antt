@@ -1,5 +1,4 @@
 -- `serve_request` meets its contract. Assumes nothing.
-use borrow.Author.Rules.{rules}
 use mathlib.Core.Path.{◌∙◌}
 use native.Mathlib.Omega.{arith}
 use Rattle.ledger.specs.Step.{unguarded, asked}

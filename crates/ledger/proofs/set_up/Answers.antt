@@ -1,5 +1,4 @@
 -- `set_up` meets its contract. Assumes nothing.
-use borrow.Author.Rules.{rules}
 use mathlib.Core.Path.{◌∙◌}
 use Rattle.ledger.specs.Step.{set_up_by}
 use Rattle.ledger.proofs.Spending.{set_up_spends}

@@ -1,5 +1,4 @@
 -- `store_label` meets its contract. Assumes nothing.
-use borrow.Author.Rules.{rules}
 use Rattle.ledger.proofs.Listing.{stored_place, stored_value, stored_there, stored_past}
 use Rattle.ledger.proofs.store_label.Goals as goal
 

@@ -1,9 +1,6 @@
 -- The goals that are left.
-use borrow.Author.Rules.{rules}
-use Prim.Native.Nat.{◌+◌, ◌-◌}
 use mathlib.Core.Path.{refl}
-use Rattle.bits.proofs.Tabulate.{Filling, fill_start, fill_step, fill_end}
-use Rattle.table.specs.Reading.{word}
+use Rattle.bits.proofs.Tabulate.{fill_start, fill_step, fill_end}
 use Rattle.links.proofs.words_from.Goals as goal
 
 pub loop-i-init : goal.loop-i-init

@@ -1,8 +1,6 @@
 -- `words_from` meets its contract: the words passed are there. Assumes nothing.
-use borrow.Author.Rules.{rules}
-use Prim.Native.Nat.{◌+◌, ◌-◌}
-use mathlib.Core.Path.{refl}
-use Rattle.bits.proofs.Tabulate.{Filling, fill_start, fill_step, fill_end}
+use Prim.Native.Nat.{◌+◌}
+use Rattle.bits.proofs.Tabulate.{Filling}
 use Rattle.table.specs.Reading.{word}
 use Rattle.links.proofs.words_from.Given as goal
 

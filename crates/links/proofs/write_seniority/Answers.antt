@@ -1,8 +1,7 @@
 -- `write_seniority` meets its contract. Assumes nothing.
 use borrow.Author.Rules.{rules}
 use mathlib.Core.Path.{◌∙◌}
-use lib.ListN.{length-set}
-use Rattle.table.specs.Reading.{direct_at, state}
+use Rattle.table.specs.Reading.{state}
 use Rattle.table.proofs.Encode.{encode_state, write_direct}
 use Rattle.table.proofs.Overlaying.{write_juniors}
 use Rattle.links.proofs.write_seniority.Goals as goal

@@ -1,11 +1,8 @@
 -- The goals that are left.
-use borrow.Author.Rules.{rules}
-use Prim.Native.Nat.{◌-◌, ◌≤◌}
 use mathlib.Core.Path.{◌≡◌, ap, ◌∙◌}
 use native.Mathlib.Omega.{arith}
-use Rattle.table.specs.Reading.{state}
 use Rattle.table.proofs.Table.{is_table_lem, not_table}
-use Rattle.masks.specs.Gathered.{gathered, masks_below, Ready}
+use Rattle.masks.specs.Gathered.{gathered, masks_below}
 use Rattle.masks.proofs.Gathering.{gathered_none}
 use Rattle.masks.proofs.Masks.{masks_start, all_masks_none, all_masks_are}
 use Rattle.masks.proofs.all_masks.Goals as goal

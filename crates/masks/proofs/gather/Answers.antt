@@ -1,7 +1,5 @@
 -- The goals that are left.
-use borrow.Author.Rules.{rules}
-use Rattle.table.specs.Reading.{state}
-use Rattle.masks.proofs.Gathering.{Gathering, gather_start, gather_step, gather_end}
+use Rattle.masks.proofs.Gathering.{gather_start, gather_step, gather_end}
 use Rattle.masks.proofs.gather.Goals as goal
 
 pub loop-left-preserved : goal.loop-left-preserved

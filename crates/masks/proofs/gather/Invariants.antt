@@ -1,7 +1,6 @@
 -- `gather` meets its contract: the objects passed are noted, and those of `left` are to come. Assumes nothing.
-use borrow.Author.Rules.{rules}
 use Rattle.table.specs.Reading.{state}
-use Rattle.masks.proofs.Gathering.{Gathering, gather_start, gather_step, gather_end}
+use Rattle.masks.proofs.Gathering.{Gathering}
 use Rattle.masks.proofs.gather.Given as goal
 
 abbrev pub invariant-loop-left : goal.invariant-loop-left

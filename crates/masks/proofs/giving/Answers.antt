@@ -1,5 +1,4 @@
 -- `giving` meets its contract. Assumes nothing.
-use borrow.Author.Rules.{rules}
 use mathlib.Core.Path.{◌∙◌}
 use Rattle.bits.proofs.Truth.{confirmed, refuted}
 use Rattle.masks.proofs.Refreshing.{giving_none, giving_are}

@@ -1,12 +1,11 @@
 -- The goals that are left.
-use borrow.Author.Rules.{rules}
-use Prim.Native.Nat.{ℕ, ◌+◌, ◌*◌, ◌-◌, ◌≤◌, ◌<◌}
+use Prim.Native.Nat.{ℕ, ◌+◌, ◌*◌, ◌<◌}
 use mathlib.Core.Path.{refl, ap, ◌∙◌}
 use native.Mathlib.Omega.{arith}
 use lib.ListN.{length, get_or}
 use Rattle.bits.specs.Words.{tabulate}
 use Rattle.bits.specs.Sets.{join}
-use Rattle.bits.proofs.Tabulate.{Writing, write_start, write_step, write_end}
+use Rattle.bits.proofs.Tabulate.{write_start, write_step, write_end}
 use Rattle.masks.specs.Gathered.{with_row}
 use Rattle.masks.proofs.join_row.Goals as goal
 

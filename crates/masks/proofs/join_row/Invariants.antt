@@ -1,13 +1,8 @@
 -- `join_row` meets its contract: the words passed have the objects of the role. Assumes nothing.
-use borrow.Author.Rules.{rules}
-use Prim.Native.Nat.{ℕ, ◌+◌, ◌*◌, ◌-◌, ◌≤◌, ◌<◌}
-use mathlib.Core.Path.{refl, ap, ◌∙◌}
-use native.Mathlib.Omega.{arith}
-use lib.ListN.{length, get_or}
-use Rattle.bits.specs.Words.{tabulate}
+use Prim.Native.Nat.{◌+◌, ◌*◌, ◌≤◌}
+use lib.ListN.{get_or}
 use Rattle.bits.specs.Sets.{join}
-use Rattle.bits.proofs.Tabulate.{Writing, write_start, write_step, write_end}
-use Rattle.masks.specs.Gathered.{with_row}
+use Rattle.bits.proofs.Tabulate.{Writing}
 use Rattle.masks.proofs.join_row.Given as goal
 
 abbrev pub invariant-loop-x : goal.invariant-loop-x

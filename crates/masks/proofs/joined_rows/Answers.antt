@@ -1,6 +1,5 @@
 -- The goals that are left.
-use borrow.Author.Rules.{rules}
-use Rattle.masks.proofs.Joined.{JoiningRows, rows_start, rows_step, rows_end}
+use Rattle.masks.proofs.Joined.{rows_start, rows_step, rows_end}
 use Rattle.masks.proofs.joined_rows.Goals as goal
 
 pub loop-left-preserved : goal.loop-left-preserved

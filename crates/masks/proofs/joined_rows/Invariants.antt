@@ -1,6 +1,5 @@
 -- `joined_rows` meets its contract: the objects of the roles passed are joined, and those of `left` are to come. Assumes nothing.
-use borrow.Author.Rules.{rules}
-use Rattle.masks.proofs.Joined.{JoiningRows, rows_start, rows_step, rows_end}
+use Rattle.masks.proofs.Joined.{JoiningRows}
 use Rattle.masks.proofs.joined_rows.Given as goal
 
 abbrev pub invariant-loop-left : goal.invariant-loop-left

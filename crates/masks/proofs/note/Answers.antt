@@ -1,6 +1,5 @@
 -- The goals that are left.
-use borrow.Author.Rules.{rules}
-use Rattle.masks.proofs.Gathering.{Noting, note_start, note_step, note_end}
+use Rattle.masks.proofs.Gathering.{note_start, note_step, note_end}
 use Rattle.masks.proofs.note.Goals as goal
 
 pub loop-left-preserved : goal.loop-left-preserved

@@ -1,6 +1,5 @@
 -- `note` meets its contract: the object is noted at the roles passed, and those of `left` are to come. Assumes nothing.
-use borrow.Author.Rules.{rules}
-use Rattle.masks.proofs.Gathering.{Noting, note_start, note_step, note_end}
+use Rattle.masks.proofs.Gathering.{Noting}
 use Rattle.masks.proofs.note.Given as goal
 
 abbrev pub invariant-loop-left : goal.invariant-loop-left

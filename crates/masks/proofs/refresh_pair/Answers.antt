@@ -1,17 +1,15 @@
 -- The goals that are left.
-use borrow.Author.Rules.{rules}
-use Prim.Native.Nat.{◌-◌, ◌≤◌}
-use mathlib.Core.Path.{◌≡◌, refl, ◌∙◌}
+use mathlib.Core.Path.{refl, ◌∙◌}
 use native.Mathlib.Omega.{arith}
 use lib.Dec.{ltb}
-use lib.ListN.{length, length-set}
+use lib.ListN.{length-set}
 use borrow.Author.Tests.{le-ltb}
 use Rattle.bits.proofs.Truth.{and_false, false_and}
 use Rattle.table.specs.Reading.{state}
-use Rattle.table.specs.Table.{is_table, encode}
+use Rattle.table.specs.Table.{is_table}
 use Rattle.table.proofs.Table.{not_table}
 use Rattle.table.proofs.Encode.{encode_state}
-use Rattle.masks.proofs.Refreshing.{pairing, pairing_none, pairing_more, pairing_all, pair_refreshed_lem, pair_left}
+use Rattle.masks.proofs.Refreshing.{pairing_none, pairing_more, pairing_all, pair_refreshed_lem, pair_left}
 use Rattle.masks.proofs.refresh_pair.Goals as goal
 
 pub returns-then-t-ne-WORDS : goal.returns-then-t-ne-WORDS

@@ -1,17 +1,10 @@
 -- `refresh_pair` meets its contract: the sessions passed are done. Assumes nothing.
-use borrow.Author.Rules.{rules}
-use Prim.Native.Nat.{◌-◌, ◌≤◌}
-use mathlib.Core.Path.{◌≡◌, refl, ◌∙◌}
-use native.Mathlib.Omega.{arith}
-use lib.Dec.{ltb}
-use lib.ListN.{length, length-set}
-use borrow.Author.Tests.{le-ltb}
-use Rattle.bits.proofs.Truth.{and_false, false_and}
+use Prim.Native.Nat.{◌≤◌}
+use mathlib.Core.Path.{◌≡◌}
+use lib.ListN.{length}
 use Rattle.table.specs.Reading.{state}
-use Rattle.table.specs.Table.{is_table, encode}
-use Rattle.table.proofs.Table.{not_table}
-use Rattle.table.proofs.Encode.{encode_state}
-use Rattle.masks.proofs.Refreshing.{pairing, pairing_none, pairing_more, pairing_all, pair_refreshed_lem, pair_left}
+use Rattle.table.specs.Table.{encode}
+use Rattle.masks.proofs.Refreshing.{pairing}
 use Rattle.masks.proofs.refresh_pair.Given as goal
 
 abbrev pub invariant-loop-s : goal.invariant-loop-s

@@ -1,12 +1,10 @@
 -- The goals that are left.
-use borrow.Author.Rules.{rules}
-use Prim.Native.Nat.{◌-◌}
 use mathlib.Core.Path.{sym, ◌∙◌}
 use Rattle.table.specs.Reading.{state}
 use Rattle.table.proofs.Table.{is_table_lem}
 use Rattle.table.proofs.Answers.{covered_roles_are}
 use Rattle.masks.proofs.Joined.{mask_joined}
-use Rattle.masks.proofs.Masks.{masks_skip, WritingMasks, masks_write_start, masks_write_step, masks_write_end}
+use Rattle.masks.proofs.Masks.{masks_skip, masks_write_start, masks_write_step, masks_write_end}
 use Rattle.masks.proofs.write_session.Goals as goal
 
 pub returns-then-active-eq0 : goal.returns-then-active-eq0

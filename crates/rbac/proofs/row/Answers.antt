@@ -1,5 +1,4 @@
 -- `row` meets its contract: an arm for each code. Assumes nothing.
-use borrow.Author.Rules.{rules}
 use Rattle.rbac.specs.Roles.{limits}
 use Rattle.rbac.proofs.Codes.{NoneOf, the_last}
 use Rattle.rbac.proofs.row.Goals as goal

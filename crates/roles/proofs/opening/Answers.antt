@@ -1,5 +1,4 @@
 -- `opening` meets its contract: on a sound table the opening without the soundness test is the same. Assumes nothing.
-use borrow.Author.Rules.{rules}
 use mathlib.Core.Path.{sym, ◌∙◌}
 use Rattle.table.proofs.Table.{is_table_lem, not_table}
 use Rattle.sound.proofs.Answers.{sound_state, unsound_state}

@@ -1,5 +1,4 @@
 -- `request` meets its contract: on a sound table the request without the soundness test is the same. Assumes nothing.
-use borrow.Author.Rules.{rules}
 use mathlib.Core.Path.{sym}
 use Rattle.bits.proofs.Truth.{confirmed, refuted}
 use Rattle.table.proofs.Table.{is_table_lem, not_table}

@@ -1,6 +1,5 @@
 -- `serve` meets its contract: codes from 7 on are of administration, the others of sessions, and each refuses what is no code. Assumes
 -- nothing.
-use borrow.Author.Rules.{rules}
 use mathlib.Core.Path.{sym}
 use Rattle.table.proofs.Table.{is_table_lem, not_table}
 use Rattle.requests.proofs.Outcome.{comes_to, refused, both, both_to}

@@ -1,5 +1,4 @@
 -- `dynamic_fit` meets its contract: no dynamic set is in use, or each is asked. Assumes nothing.
-use borrow.Author.Rules.{rules}
 use mathlib.Core.Path.{sym, ◌∙◌}
 use Rattle.bits.specs.Words.{has}
 use Rattle.bits.proofs.Truth.{false_and}

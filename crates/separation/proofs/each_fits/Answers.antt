@@ -1,13 +1,7 @@
 -- The goals that are left.
-use borrow.Author.Rules.{rules}
-use Prim.Native.Nat.{◌+◌, ◌-◌}
-use mathlib.Core.Path.{◌≡◌, sym}
-use mathlib.Core.Bool.{true}
-use Rattle.bits.specs.Words.{has}
+use mathlib.Core.Path.{sym}
 use Rattle.bits.proofs.Truth.{confirmed, refuted}
-use Rattle.bits.proofs.Below.{widen, all_intro, all_fails, Passed, passed_none, passed_more, passed_all}
-use Rattle.table.specs.Separation.{mask, bound, fewer}
-use Rattle.table.specs.Reading.{state}
+use Rattle.bits.proofs.Below.{widen, all_intro, all_fails, passed_none, passed_more, passed_all}
 use Rattle.separation.proofs.each_fits.Goals as goal
 
 pub returns-then-not-is_fewer : goal.returns-then-not-is_fewer

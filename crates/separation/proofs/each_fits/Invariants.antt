@@ -1,11 +1,9 @@
 -- `each_fits` meets its contract: the roles fit every set passed. Assumes nothing.
-use borrow.Author.Rules.{rules}
-use Prim.Native.Nat.{◌+◌, ◌-◌}
-use mathlib.Core.Path.{◌≡◌, sym}
+use Prim.Native.Nat.{◌+◌}
+use mathlib.Core.Path.{◌≡◌}
 use mathlib.Core.Bool.{true}
 use Rattle.bits.specs.Words.{has}
-use Rattle.bits.proofs.Truth.{confirmed, refuted}
-use Rattle.bits.proofs.Below.{widen, all_intro, all_fails, Passed, passed_none, passed_more, passed_all}
+use Rattle.bits.proofs.Below.{Passed}
 use Rattle.table.specs.Separation.{mask, bound, fewer}
 use Rattle.table.specs.Reading.{state}
 use Rattle.separation.proofs.each_fits.Given as goal

@@ -1,5 +1,4 @@
 -- `is_separated` meets its contract. Assumes nothing.
-use borrow.Author.Rules.{rules}
 use mathlib.Core.Path.{sym, ◌∙◌}
 use Rattle.bits.proofs.Truth.{confirmed, refuted, true_and, false_and, and_false}
 use Rattle.table.specs.Separation.{dynamic_sets_hold}

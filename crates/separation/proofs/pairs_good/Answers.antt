@@ -1,12 +1,8 @@
 -- The goals that are left.
-use borrow.Author.Rules.{rules}
-use Prim.Native.Nat.{◌-◌}
-use mathlib.Core.Path.{◌≡◌, sym, ap, ◌∙◌}
-use mathlib.Core.Bool.{true, not}
+use mathlib.Core.Path.{sym, ap, ◌∙◌}
+use mathlib.Core.Bool.{not}
 use Rattle.bits.proofs.Truth.{not_intro}
-use Rattle.bits.proofs.Below.{widen, all_intro, all_fails, Passed, passed_none, passed_more, passed_all}
-use Rattle.table.specs.Separation.{mask, bound, bad_pair}
-use Rattle.table.specs.Reading.{state}
+use Rattle.bits.proofs.Below.{widen, all_intro, all_fails, passed_none, passed_more, passed_all}
 use Rattle.separation.proofs.pairs_good.Goals as goal
 
 pub returns-then-is_bad_pair : goal.returns-then-is_bad_pair

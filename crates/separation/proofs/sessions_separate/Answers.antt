@@ -1,13 +1,8 @@
 -- The goals that are left.
-use borrow.Author.Rules.{rules}
-use Prim.Native.Nat.{◌-◌}
-use mathlib.Core.Path.{◌≡◌, sym, ◌∙◌}
-use mathlib.Core.Bool.{true}
-use Rattle.bits.specs.Words.{has}
+use mathlib.Core.Path.{sym, ◌∙◌}
 use Rattle.bits.proofs.Truth.{confirmed, refuted}
-use Rattle.bits.proofs.Below.{widen, all_intro, all_fails, Passed, passed_none, passed_more, passed_all}
+use Rattle.bits.proofs.Below.{widen, all_intro, all_fails, passed_none, passed_more, passed_all}
 use Rattle.table.specs.Reading.{state}
-use Rattle.separation.specs.Answers.{sets_fit}
 use Rattle.separation.proofs.Sets.{sessions_is}
 use Rattle.separation.proofs.sessions_separate.Goals as goal
 

@@ -1,14 +1,10 @@
 -- `sessions_separate` meets its contract: the active roles of every session passed fit. Assumes nothing.
-use borrow.Author.Rules.{rules}
-use Prim.Native.Nat.{◌-◌}
-use mathlib.Core.Path.{◌≡◌, sym, ◌∙◌}
+use mathlib.Core.Path.{◌≡◌}
 use mathlib.Core.Bool.{true}
 use Rattle.bits.specs.Words.{has}
-use Rattle.bits.proofs.Truth.{confirmed, refuted}
-use Rattle.bits.proofs.Below.{widen, all_intro, all_fails, Passed, passed_none, passed_more, passed_all}
+use Rattle.bits.proofs.Below.{Passed}
 use Rattle.table.specs.Reading.{state}
 use Rattle.separation.specs.Answers.{sets_fit}
-use Rattle.separation.proofs.Sets.{sessions_is}
 use Rattle.separation.proofs.sessions_separate.Given as goal
 
 abbrev pub invariant-loop-s : goal.invariant-loop-s

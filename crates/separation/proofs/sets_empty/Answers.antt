@@ -1,5 +1,4 @@
 -- `sets_empty` meets its contract. Assumes nothing.
-use borrow.Author.Rules.{rules}
 use mathlib.Core.Path.{◌∙◌}
 use Rattle.separation.proofs.Sets.{sets_empty_is}
 use Rattle.separation.proofs.sets_empty.Goals as goal

@@ -1,5 +1,4 @@
 -- `static_fit` meets its contract: no static set is in use, or each is asked. Assumes nothing.
-use borrow.Author.Rules.{rules}
 use mathlib.Core.Path.{sym, ◌∙◌}
 use Rattle.bits.proofs.Truth.{false_and}
 use Rattle.table.specs.Authority.{covers}

@@ -1,13 +1,7 @@
 -- The goals that are left.
-use borrow.Author.Rules.{rules}
-use Prim.Native.Nat.{◌-◌}
-use mathlib.Core.Path.{◌≡◌, sym, ◌∙◌}
-use mathlib.Core.Bool.{true}
+use mathlib.Core.Path.{sym, ◌∙◌}
 use Rattle.bits.proofs.Truth.{confirmed, refuted}
-use Rattle.bits.proofs.Below.{all_intro, all_fails, Passed, passed_none, passed_more, passed_all}
-use Rattle.table.specs.Authority.{authorised}
-use Rattle.table.specs.Separation.{fewer}
-use Rattle.table.specs.Reading.{state}
+use Rattle.bits.proofs.Below.{all_intro, all_fails, passed_none, passed_more, passed_all}
 use Rattle.separation.proofs.Sets.{authorised_fewer}
 use Rattle.separation.proofs.static_holds.Goals as goal
 

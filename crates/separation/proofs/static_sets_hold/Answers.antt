@@ -1,5 +1,4 @@
 -- `static_sets_hold` meets its contract: no static set is in use, or every user is asked. Assumes nothing.
-use borrow.Author.Rules.{rules}
 use mathlib.Core.Path.{sym, ◌∙◌}
 use Rattle.bits.proofs.Truth.{false_and}
 use Rattle.bits.proofs.Below.{all_intro}

@@ -1,14 +1,10 @@
 -- `users_separate` meets its contract: the authorised roles of every user passed fit. Assumes nothing.
-use borrow.Author.Rules.{rules}
-use Prim.Native.Nat.{◌-◌}
-use mathlib.Core.Path.{◌≡◌, sym, ◌∙◌}
+use mathlib.Core.Path.{◌≡◌}
 use mathlib.Core.Bool.{true}
-use Rattle.bits.proofs.Truth.{confirmed, refuted}
-use Rattle.bits.proofs.Below.{all_intro, all_fails, Passed, passed_none, passed_more, passed_all}
+use Rattle.bits.proofs.Below.{Passed}
 use Rattle.table.specs.Authority.{authorised}
 use Rattle.table.specs.Reading.{state}
 use Rattle.separation.specs.Answers.{sets_fit}
-use Rattle.separation.proofs.Sets.{authorised_fit, users_is}
 use Rattle.separation.proofs.users_separate.Given as goal
 
 abbrev pub invariant-loop-u : goal.invariant-loop-u

@@ -1,12 +1,9 @@
 -- `close` meets its contract. Assumes nothing.
-use borrow.Author.Rules.{rules}
 use Prim.Native.Nat.{ℕ}
 use mathlib.Core.Path.{refl, ap, ◌∙◌}
 use lib.ListN.{set}
 use Rattle.table.specs.Reading.{holds_at, state}
 use Rattle.table.proofs.Encode.{encode_state, write_holds}
-use Rattle.rbac.specs.Roles.{moved}
-use Rattle.rbac.specs.Guard.{allowed_sound, changed_sound}
 use Rattle.rbac.proofs.Serving.{serve_yes}
 use Rattle.sessions.proofs.close.Goals as goal
 

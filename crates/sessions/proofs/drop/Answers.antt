@@ -12,7 +12,7 @@ use Rattle.table.proofs.Encode.{encode_state, write_active}
 use Rattle.masks.proofs.Refreshing.{session_refreshed_lem, session_shown}
 use Rattle.sound.proofs.Answers.{within_shown}
 use Rattle.rbac.specs.Roles.{drops, moved}
-use Rattle.rbac.specs.Guard.{allowed_sound, changed_sound}
+use Rattle.rbac.specs.Guard.{allowed_sound}
 use Rattle.rbac.proofs.Serving.{serve_yes, put_back}
 use Rattle.sessions.proofs.drop.Goals as goal
 
@@ -20,7 +20,7 @@ pub returns-then-not-has : goal.returns-then-not-has
 returns-then-not-has c =
     let written : (let a = c.args in
     set a.t.now (active_at a.s) c.without-less.result ≡ encode (moved (state a.t.now) (drops a.s a.r))) =
-        let a = c.args in
+    let a = c.args in
     ap (λ (v : ℕ). set a.t.now (active_at a.s) v) c.without-less.ensures
     ∙ write_active (state a.t.now) (encode_state a.t.now c.requires.whole) a.s _ c.requires.ranged.0 in
     let absent = refuted c.has.ensures c.if-not-has.true-raw in
@@ -30,11 +30,11 @@ pub returns-then-openings_within : goal.returns-then-openings_within
 returns-then-openings_within c =
     let written : (let a = c.args in
     set a.t.now (active_at a.s) c.without-less.result ≡ encode (moved (state a.t.now) (drops a.s a.r))) =
-        let a = c.args in
+    let a = c.args in
     ap (λ (v : ℕ). set a.t.now (active_at a.s) v) c.without-less.ensures
     ∙ write_active (state a.t.now) (encode_state a.t.now c.requires.whole) a.s _ c.requires.ranged.0 in
     let told : (let a = c.args in c.openings_within.result ≡ allowed_sound (state a.t.now) (drops a.s a.r)) =
-        let a = c.args in
+    let a = c.args in
     c.openings_within.ensures
     ∙ within_shown _ written a.s _ c.requires.ranged.0 c.effective_permissions-masks.ensures
     ∙ sym (false_or _ (ap not (confirmed c.has.ensures c.if-not-has.false-raw))) in
@@ -51,11 +51,11 @@ pub returns : goal.returns
 returns c =
     let written : (let a = c.args in
     set a.t.now (active_at a.s) c.without-less.result ≡ encode (moved (state a.t.now) (drops a.s a.r))) =
-        let a = c.args in
+    let a = c.args in
     ap (λ (v : ℕ). set a.t.now (active_at a.s) v) c.without-less.ensures
     ∙ write_active (state a.t.now) (encode_state a.t.now c.requires.whole) a.s _ c.requires.ranged.0 in
     let told : (let a = c.args in c.openings_within.result ≡ allowed_sound (state a.t.now) (drops a.s a.r)) =
-        let a = c.args in
+    let a = c.args in
     c.openings_within.ensures
     ∙ within_shown _ written a.s _ c.requires.ranged.0 c.effective_permissions-masks.ensures
     ∙ sym (false_or _ (ap not (confirmed c.has.ensures c.if-not-has.false-raw))) in

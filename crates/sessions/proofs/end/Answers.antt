@@ -1,5 +1,4 @@
 -- `end` meets its contract. Assumes nothing.
-use borrow.Author.Rules.{rules}
 use mathlib.Core.Path.{refl, ap, ◌∙◌}
 use mathlib.Core.Bool.{not}
 use native.Mathlib.Omega.{arith}
@@ -8,7 +7,6 @@ use borrow.Author.Tests.{eq-eqb, ne_eqb}
 use Rattle.bits.proofs.Truth.{not_intro}
 use Rattle.table.specs.Reading.{state}
 use Rattle.table.proofs.Encode.{encode_state, write_active, write_owner}
-use Rattle.rbac.specs.Guard.{allowed_sound}
 use Rattle.rbac.proofs.Serving.{serve_yes, serve_no}
 use Rattle.rbac.proofs.Masks.{ended_is}
 use Rattle.sessions.proofs.end.Goals as goal

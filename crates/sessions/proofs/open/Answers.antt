@@ -1,13 +1,10 @@
 -- `open` meets its contract. Assumes nothing.
-use borrow.Author.Rules.{rules}
 use Prim.Native.Nat.{ℕ}
 use mathlib.Core.Path.{refl, ap, ◌∙◌}
 use lib.ListN.{set}
 use Rattle.bits.proofs.Truth.{confirmed, refuted}
 use Rattle.table.specs.Reading.{holds_at, state}
 use Rattle.table.proofs.Encode.{encode_state, write_holds}
-use Rattle.rbac.specs.Roles.{moved}
-use Rattle.rbac.specs.Guard.{allowed_sound, changed_sound}
 use Rattle.rbac.proofs.Serving.{serve_yes, serve_no}
 use Rattle.sessions.proofs.open.Goals as goal
 

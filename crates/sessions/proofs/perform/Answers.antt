@@ -1,5 +1,4 @@
 -- `perform` meets its contract: each arm's request is the one that the code decodes to. Assumes nothing.
-use borrow.Author.Rules.{rules}
 use Rattle.rbac.proofs.Codes.{NoneOf, the_last, open_code, close_code, start_code, end_code, activate_code, drop_code, fit_as, served_as}
 use Rattle.sessions.proofs.perform.Goals as goal
 

@@ -1,5 +1,4 @@
 -- `serve` meets its contract: an arm for each code. Assumes nothing.
-use borrow.Author.Rules.{rules}
 use native.Mathlib.Omega.{arith}
 use Rattle.requests.proofs.Outcome.{comes_to, refused, both, both_to}
 use Rattle.rbac.proofs.Codes.{NoneOf}

@@ -1,5 +1,4 @@
 -- `serve_code` meets its contract: the refusals of a length and an argument, then the request. Assumes nothing.
-use borrow.Author.Rules.{rules}
 use mathlib.Core.Path.{◌≡◌, ◌∙◌}
 use native.Mathlib.Omega.{arith}
 use Rattle.bits.proofs.Truth.{confirmed, refuted}
@@ -15,7 +14,7 @@ use Rattle.sessions.proofs.serve_code.Goals as goal
 pub returns-then-not-in_range : goal.returns-then-not-in_range
 returns-then-not-in_range c =
     let told : (let a = c.args in c.in_range.result ≡ in_range (ask a.code a.a a.b a.c)) =
-        let p = c.requires in let h = p.1 in range_told _ c.in_range.ensures p.0 (omega arith) in
+    let p = c.requires in let h = p.1 in range_told _ c.in_range.ensures p.0 (omega arith) in
     let p = c.requires in
     let h = p.1 in
     both (comes_to
@@ -26,9 +25,9 @@ returns-then-not-in_range c =
 pub perform-requires : goal.perform-requires
 perform-requires c =
     let told : (let a = c.args in c.in_range.result ≡ in_range (ask a.code a.a a.b a.c)) =
-        let p = c.requires in let h = p.1 in range_told _ c.in_range.ensures p.0 (omega arith) in
+    let p = c.requires in let h = p.1 in range_told _ c.in_range.ensures p.0 (omega arith) in
     let passed : (let a = c.args in Ready a.t.now a.code a.a a.b a.c) =
-        let a = c.args in
+    let a = c.args in
     let p = c.requires in
     let h = p.1 in
     ready a.t.now a.code a.a a.b a.c c.if-t-ne-WORDS.false p.0 (omega arith)
@@ -39,9 +38,9 @@ perform-requires c =
 pub returns-in-true : goal.returns-in-true
 returns-in-true c =
     let told : (let a = c.args in c.in_range.result ≡ in_range (ask a.code a.a a.b a.c)) =
-        let p = c.requires in let h = p.1 in range_told _ c.in_range.ensures p.0 (omega arith) in
+    let p = c.requires in let h = p.1 in range_told _ c.in_range.ensures p.0 (omega arith) in
     let passed : (let a = c.args in Ready a.t.now a.code a.a a.b a.c) =
-        let a = c.args in
+    let a = c.args in
     let p = c.requires in
     let h = p.1 in
     ready a.t.now a.code a.a a.b a.c c.if-t-ne-WORDS.false p.0 (omega arith)
@@ -53,9 +52,9 @@ returns-in-true c =
 pub returns-in-false : goal.returns-in-false
 returns-in-false c =
     let told : (let a = c.args in c.in_range.result ≡ in_range (ask a.code a.a a.b a.c)) =
-        let p = c.requires in let h = p.1 in range_told _ c.in_range.ensures p.0 (omega arith) in
+    let p = c.requires in let h = p.1 in range_told _ c.in_range.ensures p.0 (omega arith) in
     let passed : (let a = c.args in Ready a.t.now a.code a.a a.b a.c) =
-        let a = c.args in
+    let a = c.args in
     let p = c.requires in
     let h = p.1 in
     ready a.t.now a.code a.a a.b a.c c.if-t-ne-WORDS.false p.0 (omega arith)

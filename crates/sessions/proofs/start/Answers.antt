@@ -1,5 +1,4 @@
 -- `start` meets its contract. Assumes nothing.
-use borrow.Author.Rules.{rules}
 use Prim.Native.Nat.{ℕ}
 use mathlib.Core.Path.{refl, ap, ◌∙◌}
 use native.Mathlib.Numerals.{add-one}
@@ -12,8 +11,6 @@ use Rattle.table.proofs.Answers.{all_authorised}
 use Rattle.table.proofs.Encode.{encode_state, write_owner, write_active}
 use Rattle.separation.proofs.Sets.{dynamic_told}
 use Rattle.masks.proofs.Refreshing.{session_shown}
-use Rattle.rbac.specs.Roles.{moved}
-use Rattle.rbac.specs.Guard.{allowed_sound, changed_sound}
 use Rattle.rbac.proofs.Serving.{serve_yes, serve_no}
 use Rattle.sessions.proofs.start.Goals as goal
 

@@ -1,5 +1,4 @@
 -- `role_setup` meets its contract: the refusals in their order, then the sections that are not 0. Assumes nothing.
-use borrow.Author.Rules.{rules}
 use Prim.Native.Nat.{ℕ}
 use mathlib.Core.Path.{◌≡◌, refl, sym, ap, ap₂, ◌∙◌}
 use mathlib.Core.List.{List}

@@ -1,10 +1,7 @@
 -- `without_own` meets its contract: the words of the roles passed are there. Assumes nothing.
-use borrow.Author.Rules.{rules}
-use Prim.Native.Nat.{◌-◌}
-use mathlib.Core.Path.{refl}
 use lib.ListN.{get_or}
 use Rattle.bits.specs.Sets.{◌without◌}
-use Rattle.bits.proofs.Tabulate.{Filling, fill_start, fill_step, fill_end}
+use Rattle.bits.proofs.Tabulate.{Filling}
 use Rattle.setup.proofs.without_own.Given as goal
 
 abbrev pub invariant-loop-r : goal.invariant-loop-r

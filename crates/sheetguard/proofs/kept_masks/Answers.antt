@@ -1,9 +1,6 @@
 -- The goals that are left.
-use borrow.Author.Rules.{rules}
-use Prim.Native.Nat.{◌-◌}
 use mathlib.Core.Path.{refl}
-use Rattle.bits.proofs.Tabulate.{Filling, fill_start, fill_step, fill_end}
-use Rattle.table.specs.Reading.{state}
+use Rattle.bits.proofs.Tabulate.{fill_start, fill_step, fill_end}
 use Rattle.sheetguard.proofs.kept_masks.Goals as goal
 
 pub loop-x-init : goal.loop-x-init

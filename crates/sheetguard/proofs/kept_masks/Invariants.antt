@@ -1,8 +1,5 @@
 -- `kept_masks` meets its contract: the modes passed are filled. Assumes nothing.
-use borrow.Author.Rules.{rules}
-use Prim.Native.Nat.{◌-◌}
-use mathlib.Core.Path.{refl}
-use Rattle.bits.proofs.Tabulate.{Filling, fill_start, fill_step, fill_end}
+use Rattle.bits.proofs.Tabulate.{Filling}
 use Rattle.table.specs.Reading.{state}
 use Rattle.sheetguard.proofs.kept_masks.Given as goal
 

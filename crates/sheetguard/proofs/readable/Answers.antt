@@ -1,5 +1,4 @@
 -- `readable` meets its contract: the refusals in their order. Assumes nothing.
-use borrow.Author.Rules.{rules}
 use mathlib.Core.Path.{sym, ap, ◌∙◌}
 use borrow.Author.Tests.{not-true, not-false}
 use Rattle.bits.proofs.Truth.{confirmed, refuted}

@@ -1,5 +1,4 @@
 -- `sheetguard_authorised_roles` meets its contract: the refusals in their order, then the words. Assumes nothing.
-use borrow.Author.Rules.{rules}
 use Prim.Native.Nat.{ℕ}
 use mathlib.Core.Path.{sym, ap, ◌∙◌}
 use mathlib.Core.List.{[], ◌∷◌}

@@ -1,5 +1,4 @@
 -- `sheetguard_compare_labels` meets its contract: refusal 16, then how the labels stand. Assumes nothing.
-use borrow.Author.Rules.{rules}
 use mathlib.Core.Path.{sym, ap, ◌∙◌}
 use Rattle.bits.proofs.Truth.{confirmed, refuted, past, stopped}
 use Rattle.machine.specs.Number.{standing_number}

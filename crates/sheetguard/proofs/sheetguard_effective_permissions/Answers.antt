@@ -1,5 +1,4 @@
 -- `sheetguard_effective_permissions` meets its contract: the refusals in their order, then the words. Assumes nothing.
-use borrow.Author.Rules.{rules}
 use mathlib.Core.Path.{sym, ap, ◌∙◌}
 use borrow.Author.Tests.{eqb-true, ltb-true}
 use Rattle.bits.proofs.Truth.{and_left, and_right}
@@ -22,7 +21,7 @@ returns c =
     read_given _ _ _ _ e c.if-n-ne1.false (c.overlay.ensures ∙ ap (overlay _ 0) kept ∙ overlay_whole _ _ (eqb-true _ _ (and_right _ _ is.2) ∙ sym (eight _ _)))
 
 pub kept_masks-requires : goal.kept_masks-requires
-kept_masks-requires c = 
+kept_masks-requires c =
     let e = c.number-n.ensures ∙ c.readable.ensures ∙ ap (readable _) c.is_known.ensures in
     let is = readable_elim _ _ (sym e ∙ c.if-n-ne1.false) in
     (table_length_lem _ is.0, ltb-true _ _ (and_left _ _ is.2))

@@ -1,5 +1,4 @@
 -- `sheetguard_statement` meets its contract: what `tally::statement` says, written where it answers 1. Assumes nothing.
-use borrow.Author.Rules.{rules}
 use Prim.Native.Nat.{ℕ}
 use mathlib.Core.Path.{sym, ap, ◌∙◌}
 use lib.Dec.{eqb}

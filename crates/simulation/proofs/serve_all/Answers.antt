@@ -1,12 +1,10 @@
 -- The goals that are left.
-use borrow.Author.Rules.{rules}
-use Prim.Native.Nat.{ℕ, ◌-◌, ◌/◌}
+use Prim.Native.Nat.{ℕ}
 use mathlib.Core.Path.{ap, ◌∙◌}
 use mathlib.Core.List.{List}
-use lib.ListN.{length}
 use Rattle.requests.specs.Request.{Outcome}
 use Rattle.labels.specs.Guard.{image_step}
-use Rattle.simulation.proofs.Listing.{Serving, second_place, serve_start, serve_step, served_table, served_replies, serve_here}
+use Rattle.simulation.proofs.Listing.{second_place, serve_start, serve_step, served_table, served_replies, serve_here}
 use Rattle.simulation.proofs.serve_all.Goals as goal
 
 pub bounds-replies-i-in-loop-i : goal.bounds-replies-i-in-loop-i

@@ -1,5 +1,4 @@
 -- `serve_at` meets its contract. Assumes nothing.
-use borrow.Author.Rules.{rules}
 use mathlib.Core.Path.{refl}
 use Rattle.labels.proofs.Replying.{refused_clauses, clauses_as}
 use Rattle.simulation.specs.Run.{ask_at}

@@ -1,13 +1,9 @@
 -- The goals that are left.
-use borrow.Author.Rules.{rules}
-use Prim.Native.Nat.{◌-◌}
-use mathlib.Core.Path.{◌≡◌, sym, ◌∙◌}
-use mathlib.Core.Bool.{true}
+use mathlib.Core.Path.{sym, ◌∙◌}
 use Rattle.bits.proofs.Truth.{confirmed, refuted}
-use Rattle.bits.proofs.Below.{all_intro, all_fails, Passed, passed_none, passed_more, passed_all}
-use Rattle.table.specs.Reading.{state}
+use Rattle.bits.proofs.Below.{all_intro, all_fails, passed_none, passed_more, passed_all}
 use Rattle.table.proofs.Answers.{words_empty_elim}
-use Rattle.sound.specs.Tests.{grant_fits, grants_fit}
+use Rattle.sound.specs.Tests.{grants_fit}
 use Rattle.sound.proofs.Grants.{none_fits}
 use Rattle.sound.proofs.grants_fit.Goals as goal
 

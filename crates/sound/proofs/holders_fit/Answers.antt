@@ -1,13 +1,9 @@
 -- The goals that are left.
-use borrow.Author.Rules.{rules}
-use Prim.Native.Nat.{◌-◌, suc-le-suc}
+use Prim.Native.Nat.{suc-le-suc}
 use mathlib.Core.Path.{◌≡◌, sym, ◌∙◌}
 use mathlib.Core.Bool.{true}
-use mathlib.Core.Logic.{⊎_elim}
-use Rattle.bits.specs.Words.{has}
 use Rattle.bits.proofs.Truth.{clash, confirmed, refuted}
-use Rattle.bits.proofs.Below.{widen, Passed, passed_none, passed_more, passed_all}
-use Rattle.table.specs.Reading.{state}
+use Rattle.bits.proofs.Below.{widen, passed_none, passed_more, passed_all}
 use Rattle.table.specs.Answers.{openable}
 use Rattle.sound.proofs.Answers.{holders_fail, holders_hold, holders_short, holders_past_mode, holders_past_object}
 use Rattle.sound.proofs.holders_fit.Goals as goal
@@ -23,8 +19,8 @@ loop-s-preserved c =
     let a = c.args in
     passed_more c.loop-s.invariant (widen 32 c.loop-s-test.true tt) (λ m.
     elim c.if-has.branch as (λ w. openable a.t.now c.loop-s.s a.x a.o ≡ true) [
-      then-has+else-not-is_effective w ↦ confirmed w.is_effective.ensures w.if-not-is_effective.false-raw
-    | else-has w ↦ clash m (sym c.has.ensures ∙ w.if-has.false)
+      | then-has+else-not-is_effective w ↦ confirmed w.is_effective.ensures w.if-not-is_effective.false-raw
+      | else-has w ↦ clash m (sym c.has.ensures ∙ w.if-has.false)
     ])
 
 pub returns : goal.returns

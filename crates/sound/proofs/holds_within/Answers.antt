@@ -1,13 +1,7 @@
 -- The goals that are left.
-use borrow.Author.Rules.{rules}
-use Prim.Native.Nat.{◌+◌, ◌-◌}
-use mathlib.Core.Path.{◌≡◌, sym}
-use mathlib.Core.Bool.{true}
-use lib.ListN.{get_or}
-use Rattle.bits.specs.Words.{subset}
+use mathlib.Core.Path.{sym}
 use Rattle.bits.proofs.Truth.{confirmed, refuted}
-use Rattle.bits.proofs.Below.{all_intro, all_fails, widen, Passed, passed_none, passed_more, passed_all}
-use Rattle.table.specs.Reading.{state}
+use Rattle.bits.proofs.Below.{all_intro, all_fails, widen, passed_none, passed_more, passed_all}
 use Rattle.sound.specs.Answers.{held_within}
 use Rattle.sound.proofs.holds_within.Goals as goal
 

@@ -1,14 +1,11 @@
 -- `holds_within` meets its contract: what s holds in the modes passed is in the masks. Assumes nothing.
-use borrow.Author.Rules.{rules}
-use Prim.Native.Nat.{◌+◌, ◌-◌}
-use mathlib.Core.Path.{◌≡◌, sym}
+use Prim.Native.Nat.{◌+◌}
+use mathlib.Core.Path.{◌≡◌}
 use mathlib.Core.Bool.{true}
 use lib.ListN.{get_or}
 use Rattle.bits.specs.Words.{subset}
-use Rattle.bits.proofs.Truth.{confirmed, refuted}
-use Rattle.bits.proofs.Below.{all_intro, all_fails, widen, Passed, passed_none, passed_more, passed_all}
+use Rattle.bits.proofs.Below.{Passed}
 use Rattle.table.specs.Reading.{state}
-use Rattle.sound.specs.Answers.{held_within}
 use Rattle.sound.proofs.holds_within.Given as goal
 
 abbrev pub invariant-loop-x : goal.invariant-loop-x

@@ -1,17 +1,11 @@
 -- The goals that are left.
-use borrow.Author.Rules.{rules}
-use Prim.Native.Nat.{◌-◌}
-use mathlib.Core.Path.{◌≡◌, sym, ◌∙◌}
-use mathlib.Core.Bool.{true}
-use Rattle.bits.specs.Words.{subset}
+use mathlib.Core.Path.{sym, ◌∙◌}
 use Rattle.bits.proofs.Truth.{confirmed, refuted}
-use Rattle.bits.proofs.Below.{widen, Passed, passed_none, passed_more, passed_all}
-use Rattle.table.specs.Reading.{state}
+use Rattle.bits.proofs.Below.{widen, passed_none, passed_more, passed_all}
 use Rattle.table.proofs.Masks.{masks_elim, masks_intro}
 use Rattle.table.proofs.Sound.{sound_ruled, sound_masks}
 use Rattle.separation.proofs.Sets.{separated_are}
-use Rattle.sound.specs.Tests.{role_fits, grants_fit}
-use Rattle.sound.proofs.Items.{SessionFits, sound_role, sound_roles, sound_held, items_sound}
+use Rattle.sound.proofs.Items.{sound_role, sound_roles, sound_held, items_sound}
 use Rattle.sound.proofs.Grants.{sound_grants, each_grant}
 use Rattle.sound.proofs.Answers.{unsound, no_table, found_sound}
 use Rattle.sound.proofs.is_sound.Goals as goal

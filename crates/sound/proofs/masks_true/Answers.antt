@@ -1,9 +1,6 @@
 -- The goals that are left.
-use borrow.Author.Rules.{rules}
-use Prim.Native.Nat.{◌+◌, ◌-◌}
-use mathlib.Core.Path.{◌≡◌, sym, ◌∙◌}
-use lib.ListN.{get_or}
-use Rattle.bits.proofs.Below.{widen, Passed, passed_none, passed_more, passed_all}
+use mathlib.Core.Path.{sym, ◌∙◌}
+use Rattle.bits.proofs.Below.{widen, passed_none, passed_more, passed_all}
 use Rattle.sound.proofs.Masks.{found_idle, found_true, found_false}
 use Rattle.sound.proofs.masks_true.Goals as goal
 

@@ -1,10 +1,8 @@
 -- `masks_true` meets its contract: no session has an active role, or the masks passed are those worked out. Assumes nothing.
-use borrow.Author.Rules.{rules}
-use Prim.Native.Nat.{◌+◌, ◌-◌}
-use mathlib.Core.Path.{◌≡◌, sym, ◌∙◌}
+use Prim.Native.Nat.{◌+◌}
+use mathlib.Core.Path.{◌≡◌}
 use lib.ListN.{get_or}
-use Rattle.bits.proofs.Below.{widen, Passed, passed_none, passed_more, passed_all}
-use Rattle.sound.proofs.Masks.{found_idle, found_true, found_false}
+use Rattle.bits.proofs.Below.{Passed}
 use Rattle.sound.proofs.masks_true.Given as goal
 
 abbrev pub invariant-loop-i : goal.invariant-loop-i

@@ -1,5 +1,4 @@
 -- `openings_within` meets its contract. Assumes nothing.
-use borrow.Author.Rules.{rules}
 use Prim.Native.Nat.{suc-le-suc}
 use mathlib.Core.Path.{◌∙◌}
 use Rattle.sound.proofs.Answers.{within_from, within_short, within_past}

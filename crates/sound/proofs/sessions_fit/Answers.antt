@@ -1,13 +1,11 @@
 -- The goals that are left.
-use borrow.Author.Rules.{rules}
-use Prim.Native.Nat.{suc, ◌-◌, suc-le-suc}
+use Prim.Native.Nat.{suc-le-suc}
 use mathlib.Core.Path.{◌≡◌, sym, ◌∙◌}
 use mathlib.Core.Bool.{true}
-use mathlib.Core.Logic.{⊎_elim}
 use native.Mathlib.Numerals.{add-one}
 use Rattle.bits.specs.Words.{subset}
 use Rattle.bits.proofs.Truth.{confirmed, refuted}
-use Rattle.bits.proofs.Below.{widen, Passed, passed_none, passed_more, passed_all}
+use Rattle.bits.proofs.Below.{widen, passed_none, passed_more, passed_all}
 use Rattle.table.specs.Reading.{state}
 use Rattle.sound.proofs.Answers.{sessions_fail, sessions_hold_lem, sessions_short, sessions_past}
 use Rattle.sound.proofs.sessions_fit.Goals as goal
@@ -22,8 +20,8 @@ pub loop-s-preserved : goal.loop-s-preserved
 loop-s-preserved c =
     passed_more c.loop-s.invariant (widen 32 c.loop-s-test.true tt) (λ o.
     elim c.if-t-s.branch as (λ w. subset ((state c.args.t.now).active c.loop-s.s) c.covered_roles-roles.result ≡ true) [
-      then-t-s+else-not-subset w ↦ confirmed w.subset.ensures w.if-not-subset.false-raw
-    | else-t-s w ↦ absurd (w.if-t-s.false (o ∙ sym (add-one _)))
+      | then-t-s+else-not-subset w ↦ confirmed w.subset.ensures w.if-not-subset.false-raw
+      | else-t-s w ↦ absurd (w.if-t-s.false (o ∙ sym (add-one _)))
     ])
 
 pub returns : goal.returns

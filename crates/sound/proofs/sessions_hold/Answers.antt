@@ -1,15 +1,9 @@
 -- The goals that are left.
-use borrow.Author.Rules.{rules}
-use Prim.Native.Nat.{◌+◌, ◌*◌, ◌-◌}
-use mathlib.Core.Path.{◌≡◌, sym, ◌∙◌}
-use mathlib.Core.Bool.{true}
-use lib.ListN.{get_or}
-use Rattle.bits.specs.Words.{◌and◌}
+use mathlib.Core.Path.{sym, ◌∙◌}
 use Rattle.bits.proofs.Truth.{confirmed, refuted, and_intro, false_and, and_false}
-use Rattle.bits.proofs.Below.{all_intro, all_fails, widen, Passed, passed_none, passed_more, passed_all}
-use Rattle.table.specs.Reading.{state}
+use Rattle.bits.proofs.Below.{all_intro, all_fails, widen, passed_none, passed_more, passed_all}
 use Rattle.table.proofs.Table.{not_table}
-use Rattle.sound.specs.Answers.{held_within, sessions_within}
+use Rattle.sound.specs.Answers.{sessions_within}
 use Rattle.sound.specs.Tests.{roles_fit}
 use Rattle.sound.proofs.Answers.{sessions_within_are}
 use Rattle.sound.proofs.sessions_hold.Goals as goal

@@ -1,5 +1,4 @@
 -- `authorised_roles` meets its contract. Assumes nothing.
-use borrow.Author.Rules.{rules}
 use native.Mathlib.Omega.{arith}
 use mathlib.Core.Path.{◌∙◌}
 use Rattle.table.proofs.Table.{in_table, short_table, past_table}

@@ -1,12 +1,10 @@
 -- The goals that are left.
-use borrow.Author.Rules.{rules}
-use Prim.Native.Nat.{◌-◌}
 use native.Mathlib.Omega.{arith}
-use lib.ListN.{length, length-set}
+use lib.ListN.{length-set}
 use borrow.Author.Tests.{le-leb, lt-leb}
 use Rattle.bits.proofs.Truth.{if_true, if_false}
 use Rattle.table.specs.Answers.{cleared_from}
-use Rattle.bits.proofs.Tabulate.{Writing, write_start, write_step, write_end}
+use Rattle.bits.proofs.Tabulate.{write_start, write_step, write_end}
 use mathlib.Core.Path.{refl}
 use Rattle.table.proofs.clear_from.Goals as goal
 

@@ -1,5 +1,4 @@
 -- `covered_roles` meets its contract. Assumes nothing.
-use borrow.Author.Rules.{rules}
 use mathlib.Core.Path.{◌∙◌}
 use native.Mathlib.Omega.{arith}
 use Rattle.table.proofs.Table.{is_table_lem, not_table}

@@ -1,12 +1,7 @@
 -- The goals that are left.
-use borrow.Author.Rules.{rules}
-use Prim.Native.Nat.{◌-◌}
 use mathlib.Core.Path.{refl, ◌∙◌}
 use native.Mathlib.Omega.{arith}
-use Rattle.bits.specs.Words.{pack}
-use Rattle.table.specs.Reading.{state}
-use Rattle.table.specs.Authority.{effective}
-use Rattle.bits.proofs.Tabulate.{Filling, fill_start, fill_step, fill_end}
+use Rattle.bits.proofs.Tabulate.{fill_start, fill_step, fill_end}
 use Rattle.table.proofs.Table.{in_table, short_table, past_table}
 use Rattle.table.proofs.Answers.{effective_permissions_none, effective_permissions_are, granted_effective}
 use Rattle.table.proofs.effective_permissions.Goals as goal

@@ -1,9 +1,6 @@
 -- The goals that are left.
-use borrow.Author.Rules.{rules}
 use mathlib.Core.Path.{sym, ◌∙◌}
-use Rattle.bits.specs.Sets.{overlap}
-use Rattle.bits.proofs.Walk.{Picking, pick_start, pick_take, pick_pass, pick_end}
-use Rattle.table.specs.Reading.{state}
+use Rattle.bits.proofs.Walk.{pick_start, pick_take, pick_pass, pick_end}
 use Rattle.table.proofs.granted_among.Goals as goal
 
 pub loop-left-preserved-then-overlap : goal.loop-left-preserved-then-overlap

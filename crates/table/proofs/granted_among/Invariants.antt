@@ -1,9 +1,7 @@
 -- `granted_among` meets its contract: of the objects passed those granted to the roles are picked, and those of `left` are to
 -- come. Assumes nothing.
-use borrow.Author.Rules.{rules}
-use mathlib.Core.Path.{sym, ◌∙◌}
 use Rattle.bits.specs.Sets.{overlap}
-use Rattle.bits.proofs.Walk.{Picking, pick_start, pick_take, pick_pass, pick_end}
+use Rattle.bits.proofs.Walk.{Picking}
 use Rattle.table.specs.Reading.{state}
 use Rattle.table.proofs.granted_among.Given as goal
 

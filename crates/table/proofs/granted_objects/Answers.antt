@@ -1,5 +1,4 @@
 -- `granted_objects` meets its contract: there are no roles, all objects are permissions, or these are picked. Assumes nothing.
-use borrow.Author.Rules.{rules}
 use mathlib.Core.Path.{◌∙◌}
 use Rattle.table.specs.Reading.{state}
 use Rattle.table.proofs.Answers.{granted_none, granted_all}

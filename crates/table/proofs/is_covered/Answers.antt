@@ -1,9 +1,6 @@
 -- The goals that are left.
-use borrow.Author.Rules.{rules}
 use mathlib.Core.Path.{sym, ◌∙◌}
-use Rattle.bits.specs.Sets.{overlap}
-use Rattle.bits.proofs.Walk.{Seeking, seek_start, seek_step, seek_found, seek_end}
-use Rattle.table.specs.Reading.{state}
+use Rattle.bits.proofs.Walk.{seek_start, seek_step, seek_found, seek_end}
 use Rattle.table.proofs.is_covered.Goals as goal
 
 pub returns-then-overlap : goal.returns-then-overlap

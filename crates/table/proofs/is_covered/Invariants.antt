@@ -1,8 +1,6 @@
 -- `is_covered` meets its contract: no role passed covers a granted one, and those of `left` are to come. Assumes nothing.
-use borrow.Author.Rules.{rules}
-use mathlib.Core.Path.{sym, ◌∙◌}
 use Rattle.bits.specs.Sets.{overlap}
-use Rattle.bits.proofs.Walk.{Seeking, seek_start, seek_step, seek_found, seek_end}
+use Rattle.bits.proofs.Walk.{Seeking}
 use Rattle.table.specs.Reading.{state}
 use Rattle.table.proofs.is_covered.Given as goal
 

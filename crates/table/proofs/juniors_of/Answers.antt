@@ -1,7 +1,5 @@
 -- The goals that are left.
-use borrow.Author.Rules.{rules}
-use Rattle.bits.proofs.Walk.{Joining, join_start, join_step, join_end}
-use Rattle.table.specs.Reading.{state}
+use Rattle.bits.proofs.Walk.{join_start, join_step, join_end}
 use Rattle.table.specs.Authority.{covers}
 use Rattle.table.proofs.juniors_of.Goals as goal
 

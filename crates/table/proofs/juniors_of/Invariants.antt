@@ -1,8 +1,6 @@
 -- `juniors_of` meets its contract: the juniors of the roles passed are gathered, and those of `left` are to come. Assumes nothing.
-use borrow.Author.Rules.{rules}
-use Rattle.bits.proofs.Walk.{Joining, join_start, join_step, join_end}
+use Rattle.bits.proofs.Walk.{Joining}
 use Rattle.table.specs.Reading.{state}
-use Rattle.table.specs.Authority.{covers}
 use Rattle.table.proofs.juniors_of.Given as goal
 
 abbrev pub invariant-loop-left : goal.invariant-loop-left

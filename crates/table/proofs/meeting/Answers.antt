@@ -7,7 +7,7 @@ use native.Mathlib.Nat.{add-zero}
 use native.Mathlib.Omega.{arith}
 use Rattle.bits.specs.Words.{bit}
 use Rattle.bits.specs.Sets.{overlap}
-use Rattle.bits.proofs.Walk.{Stacking, stack_start, stack_room, stack_step, stack_end}
+use Rattle.bits.proofs.Walk.{stack_start, stack_room, stack_step}
 use Rattle.table.specs.Reading.{word}
 use Rattle.table.proofs.meeting.Goals as goal
 use Rattle.table.proofs.meeting.Goals.{then-overlap, else-overlap}
@@ -24,8 +24,8 @@ loop-k-preserved c =
     let h = c.loop-k-test.true in
     let asked = ap (λ (i : ℕ). overlap (word a.t.now (a.at + i)) a.set) (sym (place l.k h)) ∙ sym c.overlap.ensures in
     elim c.if-overlap.branch [
-      then-overlap w ↦ stack_step l.invariant h (w.found-is ∙ ap (λ (b : Bool). l.found + l.found + bit b) (sym (asked ∙ w.if-overlap.true)))
-    | else-overlap w ↦ stack_step l.invariant h (w.found-is ∙ sym (add-zero _) ∙ ap (λ (b : Bool). l.found + l.found + bit b) (sym (asked ∙ w.if-overlap.false)))
+      | then-overlap w ↦ stack_step l.invariant h (w.found-is ∙ ap (λ (b : Bool). l.found + l.found + bit b) (sym (asked ∙ w.if-overlap.true)))
+      | else-overlap w ↦ stack_step l.invariant h (w.found-is ∙ sym (add-zero _) ∙ ap (λ (b : Bool). l.found + l.found + bit b) (sym (asked ∙ w.if-overlap.false)))
     ]
 
 pub loop-k-init : goal.loop-k-init

@@ -1,5 +1,4 @@
 -- The goals that are left.
-use borrow.Author.Rules.{rules}
 use Prim.Native.Nat.{ℕ, ◌+◌, ◌-◌, ◌≤◌, ◌<◌}
 use mathlib.Core.Path.{◌≡◌, ap}
 use native.Mathlib.Omega.{arith}
@@ -7,7 +6,7 @@ use lib.ListN.{length, get_or, length-set}
 use borrow.Author.Tests.{le-leb, lt-leb, lt-ltb, le-ltb, ltb-true, ltb-false}
 use Rattle.bits.proofs.Truth.{if_true, if_false, and_intro, false_and, and_false}
 use Rattle.table.specs.Answers.{overlay}
-use Rattle.bits.proofs.Tabulate.{Writing, write_start, write_step, write_end}
+use Rattle.bits.proofs.Tabulate.{write_start, write_step, write_end}
 use Rattle.table.proofs.overlay.Goals as goal
 
 pub loop-i-preserved : goal.loop-i-preserved

@@ -1,13 +1,8 @@
 -- `overlay` meets its contract. Assumes nothing.
-use borrow.Author.Rules.{rules}
-use Prim.Native.Nat.{ℕ, ◌+◌, ◌-◌, ◌≤◌, ◌<◌}
-use mathlib.Core.Path.{◌≡◌, ap}
-use native.Mathlib.Omega.{arith}
-use lib.ListN.{length, get_or, length-set}
-use borrow.Author.Tests.{le-leb, lt-leb, lt-ltb, le-ltb, ltb-true, ltb-false}
-use Rattle.bits.proofs.Truth.{if_true, if_false, and_intro, false_and, and_false}
-use Rattle.table.specs.Answers.{overlay}
-use Rattle.bits.proofs.Tabulate.{Writing, write_start, write_step, write_end}
+use Prim.Native.Nat.{◌+◌, ◌-◌, ◌≤◌}
+use mathlib.Core.Path.{◌≡◌}
+use lib.ListN.{length, get_or}
+use Rattle.bits.proofs.Tabulate.{Writing}
 use Rattle.table.proofs.overlay.Given as goal
 
 abbrev pub invariant-loop-i : goal.invariant-loop-i

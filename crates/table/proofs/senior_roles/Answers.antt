@@ -1,5 +1,4 @@
 -- `senior_roles` meets its contract. Assumes nothing.
-use borrow.Author.Rules.{rules}
 use mathlib.Core.Path.{◌∙◌}
 use Rattle.table.proofs.Table.{is_table_lem, not_table}
 use Rattle.table.proofs.Answers.{senior_roles_are, senior_roles_none}

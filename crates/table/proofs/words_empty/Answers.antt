@@ -1,11 +1,8 @@
 -- The goals that are left.
-use borrow.Author.Rules.{rules}
-use Prim.Native.Nat.{◌+◌, ◌-◌}
 use mathlib.Core.Path.{◌∙◌}
 use native.Mathlib.Omega.{arith}
-use Rattle.table.specs.Reading.{word}
 use Rattle.table.proofs.Answers.{words_empty_are, not_words_empty}
-use Rattle.table.proofs.Gathering.{Gathering, gather_start, gather_step, gather_end}
+use Rattle.table.proofs.Gathering.{gather_start, gather_step, gather_end}
 use Rattle.table.proofs.words_empty.Goals as goal
 
 pub returns : goal.returns

@@ -1,5 +1,4 @@
 -- `conclude` meets its contract. Assumes nothing.
-use borrow.Author.Rules.{rules}
 use mathlib.Core.Path.{sym, ◌∙◌}
 use native.Mathlib.Omega.{arith}
 use Rattle.output.proofs.Writing.{wrote_no_row, wrote_within, length_row}

@@ -1,23 +1,17 @@
 -- `serve` meets its contract. The loop's invariant: what the block comes to is what was read and written up to the place i,
 -- and then what the rest of it comes to from where the transcript stands; and the digits show its number. Assumes nothing.
-use borrow.Author.Rules.{rules}
 use Prim.Native.Nat.{ℕ, ◌-◌, ◌^◌, ◌<◌}
-use mathlib.Core.Path.{◌≡◌, refl, sym, ◌∙◌}
+use mathlib.Core.Path.{◌≡◌}
 use mathlib.Core.Bool.{true}
 use mathlib.Core.List.{List}
-use native.Mathlib.Nat.{le_of_eq}
-use native.Mathlib.Omega.{arith}
-use lib.Dec.{lit≤}
 use lib.ListN.{length, take, drop}
-use Rattle.bits.proofs.Truth.{confirmed, refuted}
 use Rattle.reader.specs.declared.Reader.{Reader}
 use Rattle.output.specs.Text.{decimal}
-use Rattle.output.proofs.Counting.{number_shown, count_shown, row_numbered}
 use Rattle.entries.specs.declared.Phase.{Phase}
 use Rattle.ledger.specs.Store.{store}
 use Rattle.ledger.specs.Step.{unguarded}
 use Rattle.transcript.specs.Stream.{Standing, serving}
-use Rattle.transcript.proofs.Far.{Far, far_start, far_no_room, far_no_number, far_end, far_used, far_next, far_row}
+use Rattle.transcript.proofs.Far.{Far}
 use Rattle.transcript.proofs.serve.Given as goal
 
 abbrev at_hand : Phase → List ℕ → List ℕ → List ℕ → List ℕ → List ℕ → ℕ → Reader → Standing

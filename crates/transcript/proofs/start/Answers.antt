@@ -1,5 +1,4 @@
 -- `start` meets its contract. Assumes nothing.
-use borrow.Author.Rules.{rules}
 use mathlib.Core.Path.{ap}
 use Rattle.reader.specs.declared.Reader.{Reader}
 use Rattle.entries.specs.declared.Phase.TheVariants.{Opening}

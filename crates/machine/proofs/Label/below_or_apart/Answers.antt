@@ -1,5 +1,4 @@
 -- `Label::below_or_apart` meets its contract. Assumes nothing.
-use borrow.Author.Rules.{rules}
 use mathlib.Core.Path.{sym, ◌∙◌}
 use Rattle.machine.proofs.Order.{class_short, sets_tell, found_below, found_apart}
 use Rattle.machine.proofs.Label.below_or_apart.Goals as goal

@@ -1,5 +1,4 @@
 -- `Label::compare` meets its contract. Assumes nothing.
-use borrow.Author.Rules.{rules}
 use mathlib.Core.Path.{sym, ◌∙◌}
 use Rattle.machine.proofs.Order.{stands_equal, stands_above, dominates_is, class_short, sets_tell}
 use Rattle.machine.proofs.Label.compare.Goals as goal
