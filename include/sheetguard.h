@@ -1,7 +1,7 @@
 /*
  * The sheet guard: role tables, and the label walls that they carry.
  *
- * Link with libsheetguard.a, which `rt staticlib sheetguard` writes to target/staticlib (x86-64 Linux).
+ * Link with libsheetguard.a, which `tools/build sheetguard` writes to target/staticlib (x86-64 Linux).
  *
  * The guard keeps nothing. The caller lends it a table of SHEETGUARD_WORDS words at each call and stores the table as it
  * likes; sheetguard_compare_labels and sheetguard_statement alone take none. A programmer who has to store, restore or

@@ -35,6 +35,12 @@ extern "C" fn guard_write(file: i32, bytes: *const u8, count: usize) -> isize {
     count as isize
 }
 
+/// What the program asks behind a call that failed: none does.
+#[no_mangle]
+extern "C" fn rattle_errno() -> i32 {
+    unreachable!("no read and no write fails here")
+}
+
 /// What the program writes for an input that is cut at these places.
 fn written(input: &[u8], cuts: &[usize]) -> Vec<u8> {
     let ends = cuts.iter().copied().chain([input.len()]);
@@ -43,7 +49,7 @@ fn written(input: &[u8], cuts: &[usize]) -> Vec<u8> {
     PIECES.set(pieces);
     OUTPUT.set(Vec::new());
     // SAFETY: it takes no argument, and calls what stands above
-    unsafe { guard_main() };
+    assert_eq!(unsafe { guard_main() }, 0);
     OUTPUT.take()
 }
 

@@ -31,7 +31,7 @@ struct Run {
 
 impl Run {
     fn of(command: &mut Command) -> Run {
-        let child = command.stderr(Stdio::piped()).spawn().expect("the program is built: rt check guard");
+        let child = command.stderr(Stdio::piped()).spawn().expect("the program is built: tools/build guard");
         let id = child.id().to_string();
         let (watch, over) = mpsc::channel();
         thread::spawn(move || {

@@ -1,7 +1,7 @@
 //! `bin/guard` from outside: the exit status and the words that it makes of a run, and how it proves and builds.
 //! Real here: `bin/guard`, the program, and flock. Stand-ins: `rt`, a script that writes the lines that rt writes and puts
 //! a program in its place, so that nothing is proved; and where a test needs a signal, the program, a script too. Each test
-//! has a repository of its own with three crates under target/wrapper/. `tests/run` compiles and runs it.
+//! has a repository of its own with three crates under target/wrapper/, which goes with it. `tests/run` compiles and runs it.
 use std::ffi::OsStr;
 use std::fs::{self, File};
 use std::io::{BufRead, BufReader, Read, Write};
@@ -19,22 +19,30 @@ const PROVED: &str = "guard: proved 1 of 3: bits\nguard: proved 2 of 3: lines\ng
 
 /// Three crates of which the program is one, and one that it does not depend on.
 const CRATES: &str = "# crates\nbits:\n\nlines: bits\nguard: lines io libc # other\nother: guard\n";
-/// What the stand-in for rt does when all is proved: it puts the program in its place, and says what rt says.
-const PROVES: &str = "cp real target/bin/guard; echo 'rt: bits proved (3 s)'; echo 'note: lines to come'; \
-echo 'rt: lines proved (2 s)'; echo 'rt: guard proved (9 s)'; echo 'rt: ok, 3 crates proved'";
+/// What the stand-in for rt does when all is proved: it puts the program in its place, says what rt says, and runs the program.
+const PROVES: &str = "mkdir -p ../bits/out ../lines/out out; cp ../../real out/guard; \
+for c in bits lines guard; do echo 'fn f: proved' >&2; echo 'library bits: modules loaded=1 checked=0' >&2; \
+echo \"crate $c: modules loaded=2 checked=3\" >&2; echo 'logic=proved functions=1 sum=0' >&2; done; \
+echo 'rt: running out/guard' >&2; echo row";
 /// The same where nothing has changed: rt leaves the program as it is.
-const UNCHANGED: &str =
-    "for c in bits lines guard; do echo \"rt: $c proved (unchanged since it was last proved)\"; done";
+const UNCHANGED: &str = "echo 'rt: nothing has changed since the last proved build' >&2; echo row";
 
 /// A repository with a stand-in for rt.
 struct Repository(PathBuf);
+
+/// No other crates.txt may lie below this repository's own when `rt ci` runs.
+impl Drop for Repository {
+    fn drop(&mut self) {
+        let _ = fs::remove_dir_all(&self.0);
+    }
+}
 
 impl Repository {
     /// One where nothing is built yet.
     fn new(name: &str) -> Repository {
         let root = std::env::current_dir().unwrap().join("target/wrapper").join(name);
         let _ = fs::remove_dir_all(&root);
-        for folder in ["bin", "tools", "target/bin", "crates/bits/src", "crates/guard/src"] {
+        for folder in ["bin", "tools", "target/bin", "crates/bits/src", "crates/lines/src", "crates/guard/src"] {
             fs::create_dir_all(root.join(folder)).unwrap();
         }
         let r = Repository(root);
@@ -53,7 +61,7 @@ impl Repository {
         let r = Repository::new(name);
         assert_eq!(r.says(""), (0, HEADER.into(), format!("{BUILDING}{PROVED}")));
         assert_eq!(r.calls(), 1);
-        r.rt("echo 'rt: must not run'; exit 1");
+        r.rt("echo 'rt: must not run' >&2; exit 1");
         r
     }
 
@@ -70,7 +78,7 @@ impl Repository {
 
     /// Sets what the stand-in for rt does; it counts its calls first.
     fn rt(&self, does: &str) {
-        script_at(&self.at("tools/rt"), &format!("[ \"$*\" = 'check guard' ] || exit 7; echo >> calls; {does}"));
+        script_at(&self.at("tools/rt"), &format!("[ \"$*\" = run ] && [ \"${{PWD##*/}}\" = guard ] || exit 7; echo >> ../../calls; {does}"));
     }
 
     fn calls(&self) -> usize {
@@ -294,27 +302,28 @@ fn built_again() {
     again("another program in its place");
 }
 
-/// rt holds a crate for proved while its stamp is there, and makes no program anew.
+/// What rt has built is put in its place again.
 #[test]
 fn a_program_that_is_gone() {
     let r = Repository::built("a_program_that_is_gone");
-    fs::create_dir(r.at("target/stamp")).unwrap();
-    fs::write(r.at("target/stamp/guard"), "").unwrap();
     fs::remove_file(r.at("target/bin/guard")).unwrap();
-    r.rt(&format!("if [ -f target/stamp/guard ]; then {UNCHANGED}; else {PROVES}; fi"));
-    assert_eq!(r.says(""), (0, HEADER.into(), format!("{BUILDING}{PROVED}")));
+    r.rt(UNCHANGED);
+    assert_eq!(r.says(""), (0, HEADER.into(), BUILDING.into()));
+    assert_eq!(r.says(""), (0, HEADER.into(), String::new()));
+    assert_eq!(r.calls(), 2);
 }
 
 /// Where rt fails, its words are told, nothing is read, and what it left counts as unbuilt.
 #[test]
 fn a_failed_build() {
     let r = Repository::built("a_failed_build");
-    let fails = "echo 'rt: bits proved (3 s)'; cp real target/bin/guard; echo 'rt: its run FAILED'; exit 1";
+    let fails = "cp ../../real out/guard; for line in 'crate bits: modules loaded=2 checked=3' 'logic=proved functions=1' \
+                 'logic=not-proved'; do echo \"$line\" >&2; done; exit 1";
     r.rt(fails);
     r.write_later("crates/guard/src/main", "changed");
     let said = format!(
-        "{BUILDING}guard: proved 1 of 3: bits\nrt: bits proved (3 s)\nrt: its run FAILED\n\
-         guard: rt check guard ended with status 1\n"
+        "{BUILDING}guard: proved 1 of 3: bits\ncrate bits: modules loaded=2 checked=3\nlogic=proved functions=1\n\
+         logic=not-proved\nguard: rt run ended with status 1\n"
     );
     for _ in 0..2 {
         assert_eq!(r.says("roles\n"), (2, String::new(), said.clone()));
@@ -328,7 +337,7 @@ fn no_program_made() {
     let r = Repository::new("no_program_made");
     r.rt(UNCHANGED);
     for _ in 0..2 {
-        let said = format!("{BUILDING}guard: rt check guard made no target/bin/guard\n");
+        let said = format!("{BUILDING}guard: rt run made no crates/guard/out/guard\n");
         assert_eq!(r.says(""), (2, String::new(), said));
     }
 }
@@ -337,7 +346,7 @@ fn no_program_made() {
 #[test]
 fn a_source_changed_meanwhile() {
     let r = Repository::new("a_source_changed_meanwhile");
-    r.rt(&format!("sleep 0.05; touch crates/bits/src/lib; sleep 0.05; {PROVES}"));
+    r.rt(&format!("sleep 0.05; touch ../bits/src/lib; sleep 0.05; {PROVES}"));
     assert_eq!(r.says("").0, 0);
     assert_eq!(r.calls(), 1);
     r.rt(UNCHANGED);
@@ -391,10 +400,10 @@ fn two_copies_at_once() {
 #[test]
 fn a_killed_build() {
     let r = Repository::new("a_killed_build");
-    r.rt("cp real target/bin/guard; exec sleep 1000");
+    r.rt("mkdir out; cp ../../real out/guard; exec sleep 1000");
     let mut killed = r.command().process_group(0).spawn().unwrap();
     assert_eq!(next_said(&mut killed), BUILDING);
-    while !r.at("target/bin/guard").exists() {
+    while !r.at("crates/guard/out/guard").exists() {
         sleep(Duration::from_millis(5));
     }
     let group = format!("-{}", killed.id());
@@ -408,7 +417,7 @@ fn a_killed_build() {
 
 /// The tools that `bin/guard` needs, alone on a path with those of the repository; returns the path.
 fn alone(r: &Repository, more: &[&str]) -> PathBuf {
-    for tool in ["awk", "cat", "dirname", "find", "head", "mkdir", "mv", "rm", "sh", "touch"].iter().chain(more) {
+    for tool in ["awk", "cat", "cp", "dirname", "find", "head", "mkdir", "mv", "sh", "touch"].iter().chain(more) {
         let found = Command::new("sh").args(["-c", &format!("command -v {tool}")]).output().unwrap().stdout;
         let found = String::from_utf8(found).unwrap();
         std::os::unix::fs::symlink(found.trim_end(), r.at("tools").join(tool)).unwrap();

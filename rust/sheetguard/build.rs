@@ -1,4 +1,4 @@
-//! Finds the static library of the proved guard, which `rt staticlib sheetguard` writes. The environment variable
+//! Finds the static library of the proved guard, which `tools/build sheetguard` writes. The environment variable
 //! `SHEETGUARD_LIB` names the archive or its folder; without it the project's own target folder is looked into.
 
 use std::path::PathBuf;
@@ -18,7 +18,7 @@ fn main() {
     let archive = folder.join(ARCHIVE);
     println!("cargo::rerun-if-changed={}", archive.display());
     if !archive.is_file() {
-        eprintln!("there is no {}: run `rt staticlib sheetguard`, or set SHEETGUARD_LIB", archive.display());
+        eprintln!("there is no {}: run `tools/build sheetguard`, or set SHEETGUARD_LIB", archive.display());
         exit(1);
     }
     println!("cargo::rustc-link-search=native={}", folder.display());

@@ -3,11 +3,13 @@
 // label listing, and label 32; from 401: labels that are easily confused; from 501: how labels stand; from 601: wrong lengths and
 // values; from 701: starts with roles chosen; from 801: separation sets; from 901: links; from 951: masks; from 981: likeness, in
 // either order of the tables.
+#![tactic(auto)]
+
 ghost use Rattle.std.specs.Prelude.{◌≡◌, ◌≤◌, length};
 ghost use Rattle.cases.specs.Cases.{spent_on};
 
-use libc::STDOUT_FILENO;
 use machine::Label;
+use std::io::{Stdout, Write};
 use table::layout::WORDS;
 
 // Role requests, a code and three arguments each: cases A to H, and the sessions of J.
@@ -146,10 +148,10 @@ const LIKENESS: [u64; 76] = [
 ];
 
 // Writes a row; whether it was written.
-fn show(number: u64, answer: u64, spent: u64) -> bool {
+fn show(stdout: &mut Stdout, number: u64, answer: u64, spent: u64) -> bool {
     let mut out = [0u8; 63];
     let k = output::put_row(&mut out, 0, number, answer, spent);
-    io::write_all(STDOUT_FILENO, &out[..k])
+    stdout.write_all(&out[..k]).is_ok()
 }
 
 // What a role request with this answer spends.
@@ -163,7 +165,7 @@ fn spent_on(answer: u64) -> u64
 }
 
 // Role requests in sequence.
-fn play_roles(table: &mut [u64], words: &[u64], first: u64) -> bool
+fn play_roles(stdout: &mut Stdout, table: &mut [u64], words: &[u64], first: u64) -> bool
     requires { (first ≤ 1000) × (length words.now ≤ 1000) }
 {
     for i in 0..words.len() / 4 {
@@ -175,7 +177,7 @@ fn play_roles(table: &mut [u64], words: &[u64], first: u64) -> bool
             words[at + 2],
             words[at + 3],
         ));
-        if !show(first + i as u64, answer, spent_on(answer)) {
+        if !show(stdout, first + i as u64, answer, spent_on(answer)) {
             return false;
         }
     }
@@ -183,7 +185,7 @@ fn play_roles(table: &mut [u64], words: &[u64], first: u64) -> bool
 }
 
 // Label requests in sequence.
-fn play_labels(table: &mut [u64], words: &[u64], first: u64) -> bool
+fn play_labels(stdout: &mut Stdout, table: &mut [u64], words: &[u64], first: u64) -> bool
     requires { (first ≤ 1000) × (length words.now ≤ 1000) }
 {
     for i in 0..words.len() / 4 {
@@ -196,7 +198,7 @@ fn play_labels(table: &mut [u64], words: &[u64], first: u64) -> bool
             words[at + 3],
         );
         let answer = r.answer;
-        if !show(first + i as u64, requests::number(answer), r.spent) {
+        if !show(stdout, first + i as u64, requests::number(answer), r.spent) {
             return false;
         }
     }
@@ -204,7 +206,7 @@ fn play_labels(table: &mut [u64], words: &[u64], first: u64) -> bool
 }
 
 // How the labels of each pair stand, by number.
-fn play_pairs(words: &[u64], first: u64) -> bool
+fn play_pairs(stdout: &mut Stdout, words: &[u64], first: u64) -> bool
     requires { (first ≤ 1000) × (length words.now ≤ 1000) }
 {
     for i in 0..words.len() / 2 {
@@ -213,7 +215,7 @@ fn play_pairs(words: &[u64], first: u64) -> bool
         let standing = label.compare(Label {
             number: words[at + 1],
         });
-        if !show(first + i as u64, standing.number(), 0) {
+        if !show(stdout, first + i as u64, standing.number(), 0) {
             return false;
         }
     }
@@ -221,7 +223,13 @@ fn play_pairs(words: &[u64], first: u64) -> bool
 }
 
 // Role requests in sequence on the second table, and after each one likeness in either order.
-fn play_likeness(kept: &[u64], table: &mut [u64], words: &[u64], first: u64) -> bool
+fn play_likeness(
+    stdout: &mut Stdout,
+    kept: &[u64],
+    table: &mut [u64],
+    words: &[u64],
+    first: u64,
+) -> bool
     requires { (first ≤ 1000) × (length words.now ≤ 1000) }
 {
     for i in 0..words.len() / 4 {
@@ -235,7 +243,7 @@ fn play_likeness(kept: &[u64], table: &mut [u64], words: &[u64], first: u64) -> 
         );
         let one = requests::number(alike::alike(kept, table));
         let other = requests::number(alike::alike(table, kept));
-        if !show(first + i as u64, one, other) {
+        if !show(stdout, first + i as u64, one, other) {
             return false;
         }
     }
@@ -253,30 +261,30 @@ fn set_up_bench(table: &mut [u64]) -> u64 {
 }
 
 // Role requests after that set-up.
-fn bench_table(words: &[u64], first: u64) -> bool
+fn bench_table(stdout: &mut Stdout, words: &[u64], first: u64) -> bool
     requires { (first ≤ 1000) × (1 ≤ first) × (length words.now ≤ 1000) }
 {
     let mut table = [0u64; WORDS];
     let answer = set_up_bench(&mut table);
-    if !show(first - 1, answer, 0) {
+    if !show(stdout, first - 1, answer, 0) {
         return false;
     }
-    play_roles(&mut table, words, first)
+    play_roles(stdout, &mut table, words, first)
 }
 
 // Role requests after that set-up and the assignment of role 5 to user 2, each with the likeness of what was and what is.
-fn likeness_cases() -> bool {
+fn likeness_cases(stdout: &mut Stdout) -> bool {
     let mut kept = [0u64; WORDS];
     let mut table = [0u64; WORDS];
     set_up_bench(&mut kept);
     set_up_bench(&mut table);
     roles::request(&mut kept, 7, 2, 5, 0);
     roles::request(&mut table, 7, 2, 5, 0);
-    play_likeness(&kept, &mut table, &LIKENESS, 981)
+    play_likeness(stdout, &kept, &mut table, &LIKENESS, 981)
 }
 
 // Role 1 above 2, 3 above 4; (0, 1), (0, 2), (1, 1) and (1, 2) permissions.
-fn source_cases() -> bool {
+fn source_cases(stdout: &mut Stdout) -> bool {
     let mut table = [0u64; WORDS];
     let mut direct = [0u64; 64];
     let mut permissions = [0u64; 8];
@@ -285,14 +293,14 @@ fn source_cases() -> bool {
     permissions[0] = 6;
     permissions[1] = 6;
     let answer = setup::role_setup(&mut table, &direct, &permissions);
-    if !show(200, requests::number(answer), 0) {
+    if !show(stdout, 200, requests::number(answer), 0) {
         return false;
     }
-    play_roles(&mut table, &SOURCE, 201)
+    play_roles(stdout, &mut table, &SOURCE, 201)
 }
 
 // User 4 with clearance 17, objects 7 and 8 with labels 9 and 25.
-fn listing_cases() -> bool {
+fn listing_cases(stdout: &mut Stdout) -> bool {
     let mut table = [0u64; WORDS];
     let mut clearances = [0u8; 64];
     let mut labels = [0u8; 64];
@@ -300,14 +308,14 @@ fn listing_cases() -> bool {
     labels[7] = 9;
     labels[8] = 25;
     let answer = image::label_setup(&mut table, &clearances, &labels);
-    if !show(300, requests::number(answer), 0) {
+    if !show(stdout, 300, requests::number(answer), 0) {
         return false;
     }
-    play_labels(&mut table, &LISTING, 301)
+    play_labels(stdout, &mut table, &LISTING, 301)
 }
 
 // User 0 with clearance 9, objects 1 and 2 with labels 9 and 10.
-fn confused_cases() -> bool {
+fn confused_cases(stdout: &mut Stdout) -> bool {
     let mut table = [0u64; WORDS];
     let mut clearances = [0u8; 64];
     let mut labels = [0u8; 64];
@@ -315,20 +323,21 @@ fn confused_cases() -> bool {
     labels[1] = 9;
     labels[2] = 10;
     let answer = image::label_setup(&mut table, &clearances, &labels);
-    if !show(400, requests::number(answer), 0) {
+    if !show(stdout, 400, requests::number(answer), 0) {
         return false;
     }
-    play_labels(&mut table, &CONFUSED, 401)
+    play_labels(stdout, &mut table, &CONFUSED, 401)
 }
 
 // Tables a word short and a word long, and label 32 in a set-up.
-fn refused_cases() -> bool {
+fn refused_cases(stdout: &mut Stdout) -> bool {
     let mut short = [0u64; WORDS - 1];
     let mut long = [0u64; WORDS + 1];
     let mut table = [0u64; WORDS];
     let clearances = [32u8; 64];
     let labels = [0u8; 64];
     if !show(
+        stdout,
         601,
         requests::number(roles::request(&mut short, 4, 0, 0, 0)),
         0,
@@ -336,6 +345,7 @@ fn refused_cases() -> bool {
         return false;
     }
     if !show(
+        stdout,
         602,
         requests::number(roles::request(&mut long, 4, 0, 0, 0)),
         0,
@@ -343,6 +353,7 @@ fn refused_cases() -> bool {
         return false;
     }
     if !show(
+        stdout,
         603,
         requests::number(image::label_setup(&mut table, &clearances, &labels)),
         0,
@@ -350,42 +361,44 @@ fn refused_cases() -> bool {
         return false;
     }
     show(
+        stdout,
         604,
         requests::number(image::label_setup(&mut table, &labels, &clearances)),
         0,
     )
 }
 
-fn main() {
-    if !bench_table(&BENCH, 101) {
+fn main(rt: HostRuntime) {
+    let mut stdout = rt.stdout();
+    if !bench_table(&mut stdout, &BENCH, 101) {
         return;
     }
-    if !source_cases() {
+    if !source_cases(&mut stdout) {
         return;
     }
-    if !listing_cases() {
+    if !listing_cases(&mut stdout) {
         return;
     }
-    if !confused_cases() {
+    if !confused_cases(&mut stdout) {
         return;
     }
-    if !play_pairs(&PAIRS, 501) {
+    if !play_pairs(&mut stdout, &PAIRS, 501) {
         return;
     }
-    if !refused_cases() {
+    if !refused_cases(&mut stdout) {
         return;
     }
-    if !bench_table(&CHOSEN, 701) {
+    if !bench_table(&mut stdout, &CHOSEN, 701) {
         return;
     }
-    if !bench_table(&SETS, 801) {
+    if !bench_table(&mut stdout, &SETS, 801) {
         return;
     }
-    if !bench_table(&LINKS, 901) {
+    if !bench_table(&mut stdout, &LINKS, 901) {
         return;
     }
-    if !bench_table(&MASKS, 951) {
+    if !bench_table(&mut stdout, &MASKS, 951) {
         return;
     }
-    likeness_cases();
+    likeness_cases(&mut stdout);
 }

@@ -1,21 +1,36 @@
 // The transcript program: standard input to standard output.
-ghost use Rattle.std.specs.Prelude.{◌≡◌};
+#![tactic(auto)]
+
+ghost use Rattle.std.specs.Prelude.{◌≡◌, ◌↔◌, IsTrue};
+ghost use Rattle.std.specs.IoError.{error_kind};
 ghost use Rattle.transcript.specs.Stream.{standing, started};
 ghost use Rattle.guard.specs.Block.{Behind, beginning, Led};
 
-use libc::{STDERR_FILENO, STDIN_FILENO, STDOUT_FILENO};
+use std::io;
+use std::io::{ErrorKind, Read, Stdin, Stdout, Write};
+use std::process::ExitCode;
 use table::layout::WORDS;
 use transcript::Progress;
 
-// What came of input: where the transcript stands, and whether all was read and written.
+// What came of input: where the transcript stands, whether all was read and written, and whether the output is a pipe that nobody
+// reads any more.
 #[derive(Clone, Copy)]
 struct Block {
     progress: Progress,
     whole: bool,
+    closed: bool,
+}
+
+// Whether a write failed since nobody reads the pipe any more.
+fn is_closed(e: &io::Error) -> bool
+    ensures { IsTrue result ↔ (error_kind e.now ≡ ErrorKind.BrokenPipe) }
+{
+    e.kind() == ErrorKind::BrokenPipe
 }
 
 // Serves a whole block, and writes what comes of it.
 fn serve_block(
+    stdout: &mut Stdout,
     p: Progress,
     table: &mut [u64],
     juniors: &mut [u64],
@@ -44,16 +59,18 @@ fn serve_block(
         let used = r.used;
         let next = r.next;
         q = r.progress;
-        if !io::write_all(STDOUT_FILENO, &out[..used]) {
+        if let Err(e) = stdout.write_all(&out[..used]) {
             return Block {
                 progress: q,
                 whole: false,
+                closed: is_closed(&e),
             };
         }
         if next <= at {
             return Block {
                 progress: q,
                 whole: false,
+                closed: false,
             };
         }
         at = next;
@@ -61,11 +78,14 @@ fn serve_block(
     Block {
         progress: q,
         whole: true,
+        closed: false,
     }
 }
 
 // Reads the input to its end. The turns are more than any run uses up.
 fn serve_all(
+    stdin: &mut Stdin,
+    stdout: &mut Stdout,
     table: &mut [u64],
     juniors: &mut [u64],
     permissions: &mut [u64],
@@ -80,21 +100,22 @@ fn serve_all(
     let mut q = transcript::start();
     let mut turns: u64 = 70368744177664;
     while turns > 0 {
-        let got = libc::read(STDIN_FILENO, block);
-        if got < 0 {
+        let Ok(n) = stdin.read(block) else {
             return Block {
                 progress: q,
                 whole: false,
+                closed: false,
             };
-        }
-        let n = io::count(got, block);
+        };
         if n == 0 {
             return Block {
                 progress: q,
                 whole: true,
+                closed: false,
             };
         }
         let b = serve_block(
+            stdout,
             q,
             table,
             juniors,
@@ -106,29 +127,35 @@ fn serve_all(
         );
         q = b.progress;
         if !b.whole {
-            return Block {
-                progress: q,
-                whole: false,
-            };
+            return b;
         }
         turns -= 1;
     }
     Block {
         progress: q,
         whole: false,
+        closed: false,
     }
 }
 
-// Says on standard error what no exit status can say here.
-fn complain() {
-    io::write_all(STDERR_FILENO, b"guard: not all was read and written\n");
+// Says on standard error what the exit status does not say but of a closed pipe: there it is that of a program which the signal
+// of a closed pipe ends, for this one is not ended by it.
+fn complain(rt: &HostRuntime, closed: bool) -> ExitCode {
+    let _ = rt
+        .stderr()
+        .write_all(b"guard: not all was read and written\n");
+    if closed {
+        return ExitCode::from(141);
+    }
+    ExitCode::SUCCESS
 }
 
-fn main() {
+fn main(rt: HostRuntime) -> ExitCode {
+    let mut stdin = rt.stdin();
+    let mut stdout = rt.stdout();
     let head = output::header();
-    if !io::write_all(STDOUT_FILENO, &head) {
-        complain();
-        return;
+    if let Err(e) = stdout.write_all(&head) {
+        return complain(&rt, is_closed(&e));
     }
     let mut table = [0u64; WORDS];
     let mut juniors = [0u64; 64];
@@ -138,6 +165,8 @@ fn main() {
     let mut block = [0u8; 65536];
     let mut out = [0u8; 65536];
     let b = serve_all(
+        &mut stdin,
+        &mut stdout,
         &mut table,
         &mut juniors,
         &mut permissions,
@@ -147,11 +176,11 @@ fn main() {
         &mut out,
     );
     if !b.whole {
-        complain();
-        return;
+        return complain(&rt, b.closed);
     }
     let k = transcript::conclude(b.progress, &mut out);
-    if !io::write_all(STDOUT_FILENO, &out[..k]) {
-        complain();
+    if let Err(e) = stdout.write_all(&out[..k]) {
+        return complain(&rt, is_closed(&e));
     }
+    ExitCode::SUCCESS
 }
