@@ -78,7 +78,10 @@ impl Repository {
 
     /// Sets what the stand-in for rt does; it counts its calls first.
     fn rt(&self, does: &str) {
-        script_at(&self.at("tools/rt"), &format!("[ \"$*\" = run ] && [ \"${{PWD##*/}}\" = guard ] || exit 7; echo >> ../../calls; {does}"));
+        script_at(
+            &self.at("tools/rt"),
+            &format!("[ \"$*\" = run ] && [ \"${{PWD##*/}}\" = guard ] || exit 7; echo >> ../../calls; {does}"),
+        );
     }
 
     fn calls(&self) -> usize {
@@ -317,7 +320,8 @@ fn a_program_that_is_gone() {
 #[test]
 fn a_failed_build() {
     let r = Repository::built("a_failed_build");
-    let fails = "cp ../../real out/guard; for line in 'crate bits: modules loaded=2 checked=3' 'logic=proved functions=1' \
+    let fails =
+        "cp ../../real out/guard; for line in 'crate bits: modules loaded=2 checked=3' 'logic=proved functions=1' \
                  'logic=not-proved'; do echo \"$line\" >&2; done; exit 1";
     r.rt(fails);
     r.write_later("crates/guard/src/main", "changed");

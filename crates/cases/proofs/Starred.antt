@@ -17,8 +17,7 @@ use Rattle.table.proofs.Table.{is_table_lem}
 use Rattle.bits.proofs.Tabulate.{length_tabulate}
 use Rattle.sound.specs.Answers.{is_sound, openings_fit, sessions_fit, pair_fits}
 use Rattle.requests.specs.Request.{Outcome, within}
-use Rattle.rbac.specs.Roles.{is_code, limits, in_range, carries_bad_pair, decode, known, moved, changed}
-use Rattle.rbac.specs.Guard.{allowed_sound}
+use Rattle.rbac.specs.Roles.{is_code, limits, in_range, carries_bad_pair, decode, known, changed}
 use Rattle.rbac.proofs.Playing as playing
 use Rattle.rbac.proofs.Playing.{stay, move}
 use Rattle.rbac.proofs.Requests.{sound_encode}
