@@ -1,6 +1,5 @@
 -- Demand 3 of 01, one claim about a whole list of label requests after an accepted label set-up.
-use Rattle.std.specs.Prelude.{◌≡◌}
-use Rattle.bits.specs.Words.{ℕ, true, List, get_or}
+use Rattle.std.specs.Prelude.{ℕ, ◌≡◌, true, List, get_or}
 use Rattle.requests.specs.Request.{Ask}
 use Rattle.machine.specs.Label.{stands, equal_or_above}
 use Rattle.machine.specs.Machine.{begin, step}
