@@ -1,7 +1,7 @@
 -- What every specification here is written in: names of the library, the connectives of truth values, and words as sets of
 -- the numbers 0 to 63. 01: "Bit 0 of a word is the bit worth 1." A `let` marks what is worked out only where it is asked for.
 pub use Rattle.std.specs.Prelude.{ℕ, zero, suc, ◌+◌, ◌-◌, ◌*◌, ◌/◌, ◌%◌, ◌^◌, ◌≤◌, ◌<◌, ◌≡◌, Bool, true, false, not, eqb, leb, ltb, length, get_or}
-pub use mathlib.Core.List.{List, [], ◌∷◌, ◌++◌, Memᴰ as List-as-Memᴰ}
+pub use mathlib.Core.List.{List, [], ◌∷◌, ◌++◌, Memᴰ}
 
 infixr 35 ◌and◌
 infixr 30 ◌or◌

@@ -138,8 +138,8 @@ fn serve_all(
     }
 }
 
-// Says on standard error what the exit status does not say but of a closed pipe: there it is that of a program which the signal
-// of a closed pipe ends, for this one is not ended by it.
+// Says on standard error that not all was read and written. The exit status says it of a closed pipe alone: 141, that of a program
+// which the signal of a closed pipe ends, for this one is not ended by it.
 fn complain(rt: &HostRuntime, closed: bool) -> ExitCode {
     let _ = rt
         .stderr()

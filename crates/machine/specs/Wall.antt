@@ -1,6 +1,6 @@
 -- Requests with their answers, and what the lives of sessions carry from column to column in them (01, "Labels").
 use Rattle.std.specs.Prelude.{◌∷◌}
-use Rattle.bits.specs.Words.{ℕ, Bool, List, [], List-as-Memᴰ, eqb, ◌and◌, when◌then◌else◌}
+use Rattle.bits.specs.Words.{ℕ, Bool, List, [], Memᴰ, eqb, ◌and◌, when◌then◌else◌}
 use Rattle.requests.specs.Request.{Ask, ask, Outcome}
 
 -- a request, its answer and its figure
@@ -41,5 +41,5 @@ opened s o x n = record { asked = ask 1 s o x; answer = 1; spent = n }
 -- and yes to one in mode 1 of d
 pub data Carried (es : List Event) (c : ℕ) : ℕ → Type 0 where
   same : Carried es c c
-  through : {d e i j : ℕ} → Carried es c e → (s : ℕ) (life : List Event) → List-as-Memᴰ life (lives s es)
-      → List-as-Memᴰ (opened s e 0 i) life → List-as-Memᴰ (opened s d 1 j) life → Carried es c d
+  through : {d e i j : ℕ} → Carried es c e → (s : ℕ) (life : List Event) → Memᴰ life (lives s es)
+      → Memᴰ (opened s e 0 i) life → Memᴰ (opened s d 1 j) life → Carried es c d

@@ -1,6 +1,6 @@
 -- What is claimed of transcripts, each as the answer to a question. proofs/Claims.antt proves them.
 use Rattle.std.specs.Prelude.{◌≤◌, drop, ◌-◌, ◌^◌, ◌<◌, ◌≡◌, ◌∷◌, ◌++◌}
-use Rattle.bits.specs.Words.{ℕ, true, List, [], List-as-Memᴰ}
+use Rattle.bits.specs.Words.{ℕ, true, List, [], Memᴰ}
 use Rattle.table.specs.Table.{is_table}
 use Rattle.output.specs.Text.{header, row_room}
 use Rattle.reader.specs.declared.Reader.TheVariants.{Letters}
@@ -48,7 +48,7 @@ BlocksDoNotMatter =
 -- Which refusals does a transcript never show? 12 to 15, 18 and 21: every answer in the output of any input, wherever that ends, is
 -- one of those that are shown.
 abbrev pub NeverShown : Type 0
-NeverShown = (l : List ℕ) (r : Result) → List-as-Memᴰ r (replies l) → shows r.answer ≡ true
+NeverShown = (l : List ℕ) (r : Result) → Memᴰ r (replies l) → shows r.answer ≡ true
 
 -- Is the table sound once `run` was accepted, and in lattice mode an image? Wherever the input ends.
 abbrev pub SoundForGood : Type 0
