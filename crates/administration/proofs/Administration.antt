@@ -9,7 +9,7 @@ use Rattle.bits.proofs.Truth.{by_truth, if_true, if_false, is_false, and_intro, 
 use Rattle.requests.specs.Request.{Ask, refuse}
 use Rattle.table.specs.Table.{is_table}
 use Rattle.rbac.specs.Guard.{allowed_sound, changed_sound, sound_step}
-use Rattle.rbac.proofs.Codes.{NoneOf, none_left, code_above}
+use Rattle.rbac.proofs.Codes.{code_above}
 use Rattle.rbac.proofs.Guarding.{sound_step_table, checked_code}
 use Rattle.administration.specs.Administration.{administration_step}
 
@@ -18,10 +18,9 @@ module _ (t : List ℕ) (q : Ask) where
   unfolding administration_step
   administration_step_lem l h = if_true _ _ (and_intro (le-leb 7 q.code l) (le-leb q.code 14 h))
 
-  pub administration_other : NoneOf 6 8 q.code → administration_step t q ≡ refuse 15 t
+  pub administration_other : (7 ≤ q.code → q.code ≤ 14 → ⊥) → administration_step t q ≡ refuse 15 t
   unfolding administration_step
-  administration_other none =
-      if_false _ _ (is_false (λ e. none_left 6 8 none (leb-true 7 q.code (and_left _ _ e), leb-true q.code 14 (and_right _ _ e))))
+  administration_other none = if_false _ _ (is_false (λ e. none (leb-true 7 q.code (and_left _ _ e)) (leb-true q.code 14 (and_right _ _ e))))
 
   -- on a table a code above 6 comes to what the role guard answers, also where it is none
   pub administration_above : is_table t ≡ true → 6 < q.code → administration_step t q ≡ sound_step t q

@@ -5,7 +5,7 @@ use mathlib.Core.Bool.{true, false}
 use mathlib.Core.List.{List}
 use native.Mathlib.Omega.{arith}
 use Rattle.bits.proofs.Truth.{and_intro}
-use Rattle.bits.proofs.Members.{each_none}
+use Rattle.bits.proofs.Membership.{each_none}
 use Rattle.table.specs.State.{State}
 use Rattle.table.specs.Authority.{idle, authorised, may_activate}
 use Rattle.table.specs.Changes.{with_owner, with_active}

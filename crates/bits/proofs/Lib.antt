@@ -2,8 +2,9 @@
 pub mod Truth
 pub mod Below
 pub mod Word
-pub mod Members
+pub mod Membership
 pub mod Walk
 pub mod Counting
 pub mod Tabulate
+pub mod Chains
 pub mod Upd

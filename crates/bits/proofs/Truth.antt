@@ -72,6 +72,13 @@ pub and_comm : (a b : Bool) → a and b ≡ b and a
 and_comm a b =
     same_truth (λ e. and_intro (and_right a b e) (and_left a b e)) (λ e. and_intro (and_right b a e) (and_left b a e))
 
+-- what `&&` comes to, where its first part, of which a is known, was answered yes or no
+pub and_yes : {a b x : Bool} → x ≡ a → x ≡ true → b ≡ a and b
+and_yes e p = sym (true_and _ (sym e ∙ p))
+
+pub and_no : {a x : Bool} (b : Bool) → x ≡ a → x ≡ false → x ≡ a and b
+and_no b e p = p ∙ sym (false_and _ (sym e ∙ p))
+
 -- ---- or
 
 pub or_left : {a : Bool} (b : Bool) → a ≡ true → a or b ≡ true

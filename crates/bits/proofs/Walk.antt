@@ -5,7 +5,6 @@ use Prim.Native.Nat.{ℕ, zero, suc, ◌+◌, ◌-◌, ◌*◌, ◌/◌, ◌%◌
 use mathlib.Core.Path.{◌≡◌, refl, sym, ap, ap₂, subst, ◌∙◌}
 use mathlib.Core.Bool.{Bool, true, false}
 use native.Mathlib.Nat.{pow-suc, mul_assoc, mod_self, mod-eq_of_lt, mod-lt, add-zero}
-use native.Mathlib.Numerals.{add-one}
 use native.Mathlib.Omega.{arith}
 use lib.Dec.{eqb}
 use lib.Count.{count_trailing_zeros, under, trailing_of_zero}
@@ -17,7 +16,7 @@ use Rattle.bits.specs.Sets.{each, any, least, ◌without◌, join, lowest, rest,
 use Rattle.bits.proofs.Truth.{clash, by_truth, is_false, same_truth, and_intro, and_left, and_right, or_left, or_right, or_elim, or_false, false_or, or_assoc, true_and, false_and}
 use Rattle.bits.proofs.Below.{least_is}
 use Rattle.bits.proofs.Word.{has_zero, has_or, has_and, has_pow, has_join, with_lt, with_elim, with_old, with_new, join_lt, without_lt, without_old, without_other, without_keeps, without_absent, same_members, pack_is, pack_lt, pack_cong, pack_low, pack_with, pack_without}
-use Rattle.bits.proofs.Members.{each_intro, each_elim, each_none, some_intro, some_elim, some_none}
+use Rattle.bits.proofs.Membership.{each_intro, each_elim, each_none, some_intro, some_elim, some_none}
 
 -- ---- the lowest bit of a number
 
@@ -355,38 +354,41 @@ module _ {f : ℕ → Bool} {n : ℕ} where
     pub packing_pass : {acc' : ℕ} → f i ≡ false → acc' ≡ acc → Packing f n (i + 1) acc'
     packing_pass p z = record { within = omega arith; is = z ∙ k.is ∙ pack_without f i p }
 
--- ---- a loop that packs them from the last one down: k of n are passed, and each doubles what is packed
+-- ---- a loop that packs them from the last one down: those from i on are passed, and each doubles what is packed
 
-pub record Stacking (f : ℕ → Bool) (n k acc : ℕ) : Type 0 where
-  pub within : k ≤ n
-  pub is : acc ≡ pack k (λ i. f (n - k + i))
+pub record Stacking (f : ℕ → Bool) (n i acc : ℕ) : Type 0 where
+  pub within : i ≤ n
+  pub is : acc ≡ pack (n - i) (λ j. f (i + j))
 
 module _ {f : ℕ → Bool} {n : ℕ} where
-  pub stack_start : Stacking f n 0 0
+  pub stack_start : Stacking f n n 0
   unfolding pack
-  stack_start = record { within = omega arith; is = refl }
+  stack_start = record { within = omega arith; is = let e : n - n ≡ 0 = omega arith in sym (ap (λ (k : ℕ). pack k (λ j. f (n + j))) e) }
 
-  pub stack_end : {k acc : ℕ} → Stacking f n k acc → n ≤ k → acc ≡ pack n f
-  stack_end {k} s h =
-      let w = s.within in
-      s.is ∙ ap (λ (j : ℕ). pack j (λ i. f (n - k + i))) (omega arith) ∙ pack_cong n (λ i l. ap f (omega arith))
+  pub stack_end : {i acc : ℕ} → Stacking f n i acc → i ≤ 0 → acc ≡ pack n f
+  stack_end {i} s h =
+      let e : n - i ≡ n = omega arith in
+      s.is ∙ ap (λ (k : ℕ). pack k (λ j. f (i + j))) e ∙ pack_cong n (λ j l. ap f (omega arith))
 
-  module _ {k acc : ℕ} (s : Stacking f n k acc) (h : k < n) where
+  module _ {i acc : ℕ} (s : Stacking f n i acc) (h : 0 < i) where
     -- there is room for one place more
-    pub stack_room : n ≤ 64 → acc + acc + 1 < 2 ^ 64
+    pub stack_room : n ≤ 64 → 2 * acc + 1 < 2 ^ 64
     stack_room l =
-        let a : acc < 2 ^ k = subst (λ (x : ℕ). x < 2 ^ k) (sym s.is) (pack_lt _ k) in
-        let m : suc k ≤ 64 = omega arith in
-        let b : 2 ^ suc k ≤ 2 ^ 64 = pow_mono m in
-        let c = pow-suc 2 k in
+        let w = s.within in
+        let a : acc < 2 ^ (n - i) = subst (λ (x : ℕ). x < 2 ^ (n - i)) (sym s.is) (pack_lt _ (n - i)) in
+        let m : suc (n - i) ≤ 64 = omega arith in
+        let b : 2 ^ suc (n - i) ≤ 2 ^ 64 = pow_mono m in
+        let c = pow-suc 2 (n - i) in
         omega arith
 
-    pub stack_step : {acc' : ℕ} → acc' ≡ acc + acc + bit (f (n - (k + 1))) → Stacking f n (k + 1) acc'
+    pub stack_step : {acc' : ℕ} → acc' ≡ 2 * acc + bit (f (i - 1)) → Stacking f n (i - 1) acc'
     stack_step z = record {
-      within = omega arith;
+      within = let w = s.within in omega arith;
       is =
-          let e = pack_low k (λ i. f (n - (k + 1) + i)) in
-          let d : pack k (λ i. f (n - (k + 1) + suc i)) ≡ acc = pack_cong k (λ i l. ap f (omega arith)) ∙ sym s.is in
-          let b : bit (f (n - (k + 1) + 0)) ≡ bit (f (n - (k + 1))) = ap (λ (i : ℕ). bit (f i)) (add-zero _) in
-          z ∙ sym (ap (λ (j : ℕ). pack j (λ i. f (n - (k + 1) + i))) (add-one k) ∙ e ∙ omega arith);
+          let w = s.within in
+          let e = pack_low (n - i) (λ j. f (i - 1 + j)) in
+          let d : pack (n - i) (λ j. f (i - 1 + suc j)) ≡ acc = pack_cong (n - i) (λ j l. ap f (omega arith)) ∙ sym s.is in
+          let b : bit (f (i - 1 + 0)) ≡ bit (f (i - 1)) = ap (λ (k : ℕ). bit (f k)) (add-zero _) in
+          let m : n - (i - 1) ≡ suc (n - i) = omega arith in
+          z ∙ sym (ap (λ (k : ℕ). pack k (λ j. f (i - 1 + j))) m ∙ e ∙ omega arith);
     }

@@ -1,5 +1,5 @@
 -- What holds of some number, of each or of some member of a word, how many it holds of, and more words that are made of words.
-use Rattle.std.specs.Prelude.{◌+◌, ◌-◌, ◌≤◌, ◌<◌, ◌≡◌}
+use Rattle.std.specs.Prelude.{◌+◌, ◌-◌, ◌≤◌, ◌<◌, ◌≡◌, ◌≢◌, Option, MatchOption}
 use Rattle.bits.specs.Words.{ℕ, zero, suc, Bool, false, not, eqb, ◌and◌, ◌or◌, ◌implies◌, when◌then◌else◌, has, all, bit, pack}
 
 infixl 55 ◌without◌
@@ -65,3 +65,7 @@ pub record IsLowest (w r : ℕ) : Type 0 where
 pub record IsRest (w r : ℕ) : Type 0 where
   pub is : r ≡ rest w
   pub less : r ≤ w - 1
+
+-- one step through the members of a word: its lowest member is given and the rest is left; of an empty word nothing is given
+abbrev pub Takes : ℕ → Option ℕ → ℕ → Type 0
+Takes before given after = MatchOption given ((before ≡ 0) × (after ≡ 0)) (λ i. (before ≢ 0) × IsLowest before i × IsRest before after)

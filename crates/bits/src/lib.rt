@@ -2,6 +2,7 @@
 #![tactic(auto)]
 
 ghost use Rattle.std.specs.Prelude.{◌≡◌};
+ghost use Rattle.std.specs.Iterator.{at_most};
 ghost use Rattle.bits.specs.Words;
 ghost use Rattle.bits.specs.Sets;
 ghost use Rattle.bits.specs.Words.{◌with◌};
@@ -87,4 +88,36 @@ pub fn rest(w: u64) -> u64
         return 0;
     }
     w & (w - 1)
+}
+
+// The members of a word that are still to come, lowest first.
+#[derive(Clone, Copy)]
+pub struct Members {
+    pub left: u64,
+}
+
+impl Members {
+    // All members of w.
+    pub fn of(w: u64) -> Members
+        ensures { result.left ≡ w }
+    {
+        Members { left: w }
+    }
+}
+
+impl Iterator for Members {
+    type Item = usize;
+
+    ghost next_gives = { λ before given after. Sets.Takes before.left given after.left };
+
+    ghost remaining = { λ members. at_most members.left };
+
+    fn next(&mut self) -> Option<usize> {
+        if self.left == 0 {
+            return None;
+        }
+        let member = lowest(self.left);
+        self.left = rest(self.left);
+        Some(member)
+    }
 }

@@ -14,7 +14,7 @@ use Rattle.bits.specs.Words.{◌and◌, ◌or◌, when◌then◌else◌, has, �
 use Rattle.bits.specs.Sets.{◌without◌, join}
 use Rattle.bits.proofs.Truth.{by_truth, is_false, and_intro, and_left, and_right, or_left, or_right, or_elim, or_false, true_and, false_and, if_true, if_false}
 use Rattle.bits.proofs.Word.{same_members, without_keeps, has_join, join_lt, with_lt, with_new, with_old, with_elim, without_with}
-use Rattle.bits.proofs.Members.{not_empty}
+use Rattle.bits.proofs.Membership.{not_empty}
 use Rattle.bits.proofs.Tabulate.{length_tabulate, get_d_tabulate, tabulate_cong}
 use Rattle.closure.specs.Closure.{via, through, closure, Reaches, here, link}
 

@@ -14,7 +14,7 @@ use Rattle.bits.specs.Sets.{some}
 use Rattle.bits.proofs.Truth.{clash, is_false, same_truth, or_left, or_right, or_elim}
 use Rattle.bits.proofs.Below.{below_suc}
 use Rattle.bits.proofs.Word.{pack_lt, pack_self}
-use Rattle.bits.proofs.Members.{not_empty, some_intro, some_elim}
+use Rattle.bits.proofs.Membership.{not_empty, some_intro, some_elim}
 use Rattle.closure.specs.Closure.{Reaches, here, link}
 
 -- ---- a word with fewer members is less

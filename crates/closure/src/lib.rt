@@ -1,7 +1,7 @@
 // The reflexive, transitive closure of the direct juniors of 64 roles, and the test for a cycle.
 #![tactic(auto)]
 
-ghost use Rattle.std.specs.Prelude.{◌≡◌, ◌<◌, length, get_or, eqb};
+ghost use Rattle.std.specs.Prelude.{◌≡◌, ◌<◌, get_or, eqb};
 ghost use Rattle.bits.specs.Words.{◌implies◌, when◌then◌else◌, has};
 ghost use Rattle.bits.specs.Sets.{each, join};
 ghost use Rattle.closure.specs.Closure.{via, closure, acyclic};
@@ -11,22 +11,23 @@ fn passed_row(row: u64, below: u64, k: usize) -> u64
     ensures { result ≡ when◌then◌else◌ (has row k) (join row below) row }
 {
     if bits::has(row, k) {
-        return bits::join(row, below);
+        bits::join(row, below)
+    } else {
+        row
     }
-    row
 }
 
 // Every role that has k gets what k has; nothing changes where that is k alone.
-fn pass_through(rows: &mut [u64], k: usize)
-    requires { (length rows.old ≡ 64) × (k < 64) }
+fn pass_through(rows: &mut [u64; 64], k: usize)
+    requires { k < 64 }
     ensures { rows.new ≡ via k rows.old }
 {
     let below = rows[k];
     if bits::without(below, k) == 0 {
         return;
     }
-    for r in 0..64 {
-        rows[r] = passed_row(rows[r], below, k);
+    for row in rows.iter_mut() {
+        *row = passed_row(*row, below, k);
     }
 }
 
@@ -34,10 +35,7 @@ fn pass_through(rows: &mut [u64], k: usize)
 pub fn closure_of(direct: &[u64; 64]) -> [u64; 64]
     ensures { result ≡ closure direct.now }
 {
-    let mut rows = [0; 64];
-    for r in 0..64 {
-        rows[r] = bits::with(direct[r], r);
-    }
+    let mut rows = std::array::from_fn(|r| bits::with(direct[r], r));
     for k in 0..64 {
         pass_through(&mut rows, k);
     }
@@ -45,31 +43,16 @@ pub fn closure_of(direct: &[u64; 64]) -> [u64; 64]
 }
 
 // Whether no other role that r has has r.
-fn is_apart(rows: &[u64], r: usize) -> bool
-    requires { (length rows.now ≡ 64) × (r < 64) }
+fn is_apart(rows: &[u64; 64], r: usize) -> bool
+    requires { r < 64 }
     ensures { result ≡ each (get_or rows.now r 0) (λ q. has (get_or rows.now q 0) r implies eqb r q) }
 {
-    let mut left = rows[r];
-    while left != 0 {
-        let q = bits::lowest(left);
-        left = bits::rest(left);
-        if q != r {
-            if bits::has(rows[q], r) {
-                return false;
-            }
-        }
-    }
-    true
+    bits::Members::of(rows[r]).all(|q| q == r || !bits::has(rows[q], r))
 }
 
 // Whether no two different roles have each other.
 pub fn is_acyclic(rows: &[u64; 64]) -> bool
     ensures { result ≡ acyclic rows.now }
 {
-    for r in 0..64 {
-        if !is_apart(rows, r) {
-            return false;
-        }
-    }
-    true
+    (0..64).all(|r| is_apart(rows, r))
 }

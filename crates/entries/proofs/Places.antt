@@ -4,22 +4,23 @@ use Prim.Native.Nat.{ℕ, ◌≤◌}
 use mathlib.Core.Path.{◌≡◌, refl}
 use native.Mathlib.Omega.{arith}
 use lib.Dec.{eqb}
+use Rattle.std.specs.Prelude.{Option, Some, None, Result, Ok, Err}
 use Rattle.bits.proofs.Truth.{by_if}
 use Rattle.reader.specs.declared.Word.{Word}
 use Rattle.reader.specs.declared.Word.TheVariants.{Roles, Lattice, Above, Permit, Clear, Label, Run, Open, Close, Start, End, Activate, Drop, Assign, Deassign, Grant, Revoke, Reclear}
 use Rattle.reader.specs.declared.Line.{Line}
-use Rattle.reader.specs.declared.Line.TheVariants.{Read, Refused}
-use Rattle.entries.specs.Words.{taking, role_item, lattice_item, mode_item, item_in, numbers_of, due_in, due_of}
+use Rattle.entries.specs.Words.{taking, role_item, lattice_item, mode_item, item_in, numbers_of, due_in, due_if, due_of}
 use Rattle.entries.specs.declared.Mode.{Mode}
 use Rattle.entries.specs.declared.Mode.TheVariants.{RoleMode, LatticeMode}
 use Rattle.entries.specs.declared.Phase.{Phase}
 use Rattle.entries.specs.declared.Phase.TheVariants.{Opening, SettingUp, Running}
 use Rattle.entries.specs.declared.Setting.TheVariants.{Juniors, Permissions, Clearances, Labels}
 use Rattle.entries.specs.declared.Item.{Item}
-use Rattle.entries.specs.declared.Item.TheVariants.{Malformed, Chooses, Sets, Runs, Asks}
+use Rattle.entries.specs.declared.Item.TheVariants.{Chooses, Sets, Runs, Asks}
+use Rattle.entries.specs.declared.Fault.{Fault}
 use Rattle.entries.specs.declared.Fault.TheVariants.{WrongForm}
 use Rattle.entries.specs.declared.Due.{Due}
-use Rattle.entries.specs.declared.Due.TheVariants.{Refuse, Choose, Put, SetUp, Request}
+use Rattle.entries.specs.declared.Due.TheVariants.{Choose, Put, SetUp, Request}
 use Rattle.entries.specs.declared.Numbers.{Numbers}
 
 -- ---- codes
@@ -29,14 +30,14 @@ abbrev pub most : Mode → ℕ
 most RoleMode = 10
 most LatticeMode = 5
 
-abbrev Coded : Mode → Item → Type 0
-Coded m Malformed = Unit {0}
-Coded m (Chooses n) = Unit {0}
-Coded m (Sets s) = Unit {0}
-Coded m Runs = Unit {0}
-Coded m (Asks code) = (1 ≤ code) × (code ≤ most m)
+abbrev Coded : Mode → Option Item → Type 0
+Coded m None = Unit {0}
+Coded m (Some (Chooses n)) = Unit {0}
+Coded m (Some (Sets s)) = Unit {0}
+Coded m (Some Runs) = Unit {0}
+Coded m (Some (Asks code)) = (1 ≤ code) × (code ≤ most m)
 
-taking_coded : (m : Mode) (k n : ℕ) (i : Item) → Coded m i → Coded m (taking k i n)
+taking_coded : (m : Mode) (k n : ℕ) (i : Item) → Coded m (Some i) → Coded m (taking k i n)
 unfolding taking
 taking_coded m k n i h = by_if (Coded m) (eqb n k) (λ e. h) (λ e. tt)
 
@@ -93,46 +94,41 @@ mode_coded LatticeMode w n = lattice_coded w n
 -- ---- what is due
 
 -- a choice before there is a mode, a set-up before an accepted `run`, and a request with a code of the mode behind it
-abbrev pub Fits : Phase → Due → Type 0
-Fits p (Refuse f) = Unit {0}
-Fits p (Choose m) = p ≡ Opening
-Fits p (Put s i v) = Unit {0}
-Fits p (SetUp m) = p ≡ SettingUp m
-Fits p (Request m code a b c) = (p ≡ Running m) × (1 ≤ code) × (code ≤ most m)
+abbrev pub Fits : Phase → Result Due Fault → Type 0
+Fits p (Err f) = Unit {0}
+Fits p (Ok (Choose m)) = p ≡ Opening
+Fits p (Ok (Put s i v)) = Unit {0}
+Fits p (Ok (SetUp m)) = p ≡ SettingUp m
+Fits p (Ok (Request m code a b c)) = (p ≡ Running m) × (1 ≤ code) × (code ≤ most m)
 
-fits_opening : (i : Item) (v : Numbers) → Fits Opening (due_in Opening i v)
+item_fits : (p : Phase) (i : Item) (v : Numbers) → ((m : Mode) → p ≡ Running m → Coded m (Some i)) → Fits p (due_in p i v)
 unfolding due_in
-fits_opening Malformed v = tt
-fits_opening (Chooses m) v = refl
-fits_opening (Sets s) v = tt
-fits_opening Runs v = tt
-fits_opening (Asks code) v = tt
+item_fits Opening (Chooses m) v h = refl
+item_fits Opening (Sets s) v h = tt
+item_fits Opening Runs v h = tt
+item_fits Opening (Asks code) v h = tt
+item_fits (SettingUp m) (Chooses n) v h = tt
+item_fits (SettingUp m) (Sets s) v h = tt
+item_fits (SettingUp m) Runs v h = refl
+item_fits (SettingUp m) (Asks code) v h = tt
+item_fits (Running m) (Chooses n) v h = tt
+item_fits (Running m) (Sets s) v h = tt
+item_fits (Running m) Runs v h = tt
+item_fits (Running m) (Asks code) v h = let k = h m refl in (refl, k.0, k.1)
 
-fits_setting : (m : Mode) (i : Item) (v : Numbers) → Fits (SettingUp m) (due_in (SettingUp m) i v)
-unfolding due_in
-fits_setting m Malformed v = tt
-fits_setting m (Chooses n) v = tt
-fits_setting m (Sets s) v = tt
-fits_setting m Runs v = refl
-fits_setting m (Asks code) v = tt
+if_fits : (p : Phase) (o : Option Item) (v : Numbers) → ((m : Mode) → p ≡ Running m → Coded m o) → Fits p (due_if p o v)
+unfolding due_if
+if_fits p None v h = tt
+if_fits p (Some i) v h = item_fits p i v h
 
-fits_running : (m : Mode) (i : Item) (v : Numbers) → Coded m i → Fits (Running m) (due_in (Running m) i v)
-unfolding due_in
-fits_running m Malformed v h = tt
-fits_running m (Chooses n) v h = tt
-fits_running m (Sets s) v h = tt
-fits_running m Runs v h = tt
-fits_running m (Asks code) v h = (refl, h.0, h.1)
-
-pub due_fits : (p : Phase) (l : Line) → Fits p (due_of p l)
+pub due_fits : (p : Phase) (l : Option Line) → Fits p (due_of p l)
 unfolding due_of item_in
-due_fits p Refused = tt
-due_fits Opening (Read w fs) = fits_opening (role_item w (numbers_of fs).count) (numbers_of fs)
-due_fits (SettingUp m) (Read w fs) = fits_setting m (mode_item m w (numbers_of fs).count) (numbers_of fs)
-due_fits (Running m) (Read w fs) =
-    fits_running m (mode_item m w (numbers_of fs).count) (numbers_of fs) (mode_coded m w (numbers_of fs).count)
+due_fits p None = tt
+due_fits p (Some l) =
+    let n = (numbers_of l.fields).count in
+    if_fits p (item_in p l.word n) (numbers_of l.fields) (λ m e. rw e (mode_coded m l.word n))
 
 -- a line that was refused is refused for its form, wherever it stands
-pub due_refused : (p : Phase) → due_of p Refused ≡ Refuse WrongForm
+pub due_refused : (p : Phase) → due_of p None ≡ Err WrongForm
 unfolding due_of
 due_refused p = refl

@@ -2,19 +2,19 @@
 #![tactic(auto)]
 
 ghost use Rattle.std.specs.Prelude.{◌≡◌};
-ghost use Rattle.entries.specs.Words.{taking, role_item, lattice_item, item_in, numbers_of, fault_number, due_in, due_of};
+ghost use Rattle.entries.specs.Words.{taking, role_item, lattice_item, mode_item, item_in, numbers_of, fault_number, due_in, due_of};
 
 use reader::{Fields, Line, Word};
 
 // The mode that a transcript's first accepted line chooses.
-#[derive(Clone, Copy)]
+#[derive(Clone, Copy, PartialEq, Eq, Debug)]
 pub enum Mode {
     RoleMode,
     LatticeMode,
 }
 
 // Where a transcript stands: no mode yet, before an accepted `run`, or behind it.
-#[derive(Clone, Copy)]
+#[derive(Clone, Copy, PartialEq, Eq, Debug)]
 pub enum Phase {
     Opening,
     SettingUp(Mode),
@@ -22,7 +22,7 @@ pub enum Phase {
 }
 
 // The list that a set-up line changes.
-#[derive(Clone, Copy)]
+#[derive(Clone, Copy, PartialEq, Eq, Debug)]
 pub enum Setting {
     Juniors,
     Permissions,
@@ -31,26 +31,24 @@ pub enum Setting {
 }
 
 // What a line of the right form asks for, wherever it stands.
-#[derive(Clone, Copy)]
+#[derive(Clone, Copy, PartialEq, Eq, Debug)]
 pub enum Item {
-    Malformed,
     Chooses(Mode),
     Sets(Setting),
     Runs,
     Asks(u64),
 }
 
-// Why a line is refused for its form or its place.
-#[derive(Clone, Copy)]
+// Why a line is refused for its form or its place, by its number.
+#[derive(Clone, Copy, PartialEq, Eq, Debug)]
 pub enum Fault {
-    WrongForm,
-    OutOfPlace,
+    WrongForm = 10,
+    OutOfPlace = 11,
 }
 
 // What is due for a line where it stands, with the numbers that it takes.
-#[derive(Clone, Copy)]
+#[derive(Clone, Copy, PartialEq, Eq, Debug)]
 pub enum Due {
-    Refuse(Fault),
     Choose(Mode),
     Put(Setting, u64, u64),
     SetUp(Mode),
@@ -58,7 +56,7 @@ pub enum Due {
 }
 
 // A line's fields: how many there are, and their numbers.
-#[derive(Clone, Copy)]
+#[derive(Clone, Copy, PartialEq, Eq, Debug)]
 pub struct Numbers {
     pub count: u64,
     pub a: u64,
@@ -67,17 +65,15 @@ pub struct Numbers {
 }
 
 // The item of a word that takes k fields, on a line with n.
-fn taken(k: u64, i: Item, n: u64) -> Item
+fn taken(k: u64, i: Item, n: u64) -> Option<Item>
     ensures { result ≡ taking k i n }
 {
-    if n == k {
-        return i;
-    }
-    Item::Malformed
+    (n == k).then_some(i)
 }
 
 // The words of `roles`.
-fn role_item(w: Word, n: u64) -> Item
+#[tactic(auto, unfolding(crate::specs::Words::role_item))]
+fn role_item(w: Word, n: u64) -> Option<Item>
     ensures { result ≡ role_item w n }
 {
     match w {
@@ -85,8 +81,8 @@ fn role_item(w: Word, n: u64) -> Item
         Word::Lattice => taken(0, Item::Chooses(Mode::LatticeMode), n),
         Word::Above => taken(2, Item::Sets(Setting::Juniors), n),
         Word::Permit => taken(2, Item::Sets(Setting::Permissions), n),
-        Word::Clear => Item::Malformed,
-        Word::Label => Item::Malformed,
+        Word::Clear => None,
+        Word::Label => None,
         Word::Run => taken(0, Item::Runs, n),
         Word::Open => taken(3, Item::Asks(1), n),
         Word::Close => taken(3, Item::Asks(2), n),
@@ -98,19 +94,20 @@ fn role_item(w: Word, n: u64) -> Item
         Word::Deassign => taken(2, Item::Asks(8), n),
         Word::Grant => taken(3, Item::Asks(9), n),
         Word::Revoke => taken(3, Item::Asks(10), n),
-        Word::Reclear => Item::Malformed,
+        Word::Reclear => None,
     }
 }
 
 // The words of `lattice`.
-fn lattice_item(w: Word, n: u64) -> Item
+#[tactic(auto, unfolding(crate::specs::Words::lattice_item))]
+fn lattice_item(w: Word, n: u64) -> Option<Item>
     ensures { result ≡ lattice_item w n }
 {
     match w {
         Word::Roles => taken(0, Item::Chooses(Mode::RoleMode), n),
         Word::Lattice => taken(0, Item::Chooses(Mode::LatticeMode), n),
-        Word::Above => Item::Malformed,
-        Word::Permit => Item::Malformed,
+        Word::Above => None,
+        Word::Permit => None,
         Word::Clear => taken(2, Item::Sets(Setting::Clearances), n),
         Word::Label => taken(2, Item::Sets(Setting::Labels), n),
         Word::Run => taken(0, Item::Runs, n),
@@ -118,34 +115,40 @@ fn lattice_item(w: Word, n: u64) -> Item
         Word::Close => taken(3, Item::Asks(2), n),
         Word::Start => taken(3, Item::Asks(3), n), // session, user, level
         Word::End => taken(1, Item::Asks(4), n),
-        Word::Activate => Item::Malformed,
-        Word::Drop => Item::Malformed,
-        Word::Assign => Item::Malformed,
-        Word::Deassign => Item::Malformed,
-        Word::Grant => Item::Malformed,
-        Word::Revoke => Item::Malformed,
+        Word::Activate => None,
+        Word::Drop => None,
+        Word::Assign => None,
+        Word::Deassign => None,
+        Word::Grant => None,
+        Word::Revoke => None,
         Word::Reclear => taken(2, Item::Asks(5), n),
     }
 }
 
+// The words of a mode.
+#[tactic(auto, unfolding(crate::specs::Words::mode_item))]
+fn mode_item(m: Mode, w: Word, n: u64) -> Option<Item>
+    ensures { result ≡ mode_item m w n }
+{
+    match m {
+        Mode::RoleMode => role_item(w, n),
+        Mode::LatticeMode => lattice_item(w, n),
+    }
+}
+
 // What a word with n fields asks for in the mode of the phase.
-fn item_in(p: Phase, w: Word, n: u64) -> Item
+#[tactic(auto, unfolding(crate::specs::Words::item_in))]
+fn item_in(p: Phase, w: Word, n: u64) -> Option<Item>
     ensures { result ≡ item_in p w n }
 {
     match p {
         Phase::Opening => role_item(w, n),
-        Phase::SettingUp(m) => match m {
-            Mode::RoleMode => role_item(w, n),
-            Mode::LatticeMode => lattice_item(w, n),
-        },
-        Phase::Running(m) => match m {
-            Mode::RoleMode => role_item(w, n),
-            Mode::LatticeMode => lattice_item(w, n),
-        },
+        Phase::SettingUp(m) | Phase::Running(m) => mode_item(m, w, n),
     }
 }
 
 // The numbers of a line's fields.
+#[tactic(auto, unfolding(crate::specs::Words::numbers_of))]
 fn numbers_of(fs: Fields) -> Numbers
     ensures { result ≡ numbers_of fs }
 {
@@ -158,22 +161,17 @@ fn numbers_of(fs: Fields) -> Numbers
         },
         Fields::One(a) => Numbers {
             count: 1,
-            a: a,
+            a,
             b: 0,
             c: 0,
         },
         Fields::Two(a, b) => Numbers {
             count: 2,
-            a: a,
-            b: b,
+            a,
+            b,
             c: 0,
         },
-        Fields::Three(a, b, c) => Numbers {
-            count: 3,
-            a: a,
-            b: b,
-            c: c,
-        },
+        Fields::Three(a, b, c) => Numbers { count: 3, a, b, c },
     }
 }
 
@@ -181,50 +179,31 @@ fn numbers_of(fs: Fields) -> Numbers
 pub fn fault_number(f: Fault) -> u64
     ensures { result ≡ fault_number f }
 {
-    match f {
-        Fault::WrongForm => 10,
-        Fault::OutOfPlace => 11,
-    }
+    f as u64
 }
 
 // What is due for an item with its numbers in a phase.
-fn due_in(p: Phase, i: Item, v: Numbers) -> Due
+#[tactic(auto, unfolding(crate::specs::Words::due_in))]
+fn due_in(p: Phase, i: Item, v: Numbers) -> Result<Due, Fault>
     ensures { result ≡ due_in p i v }
 {
-    match p {
-        Phase::Opening => match i {
-            Item::Malformed => Due::Refuse(Fault::WrongForm),
-            Item::Chooses(m) => Due::Choose(m),
-            Item::Sets(_) => Due::Refuse(Fault::WrongForm),
-            Item::Runs => Due::Refuse(Fault::WrongForm),
-            Item::Asks(_) => Due::Refuse(Fault::WrongForm),
-        },
-        Phase::SettingUp(m) => match i {
-            Item::Malformed => Due::Refuse(Fault::WrongForm),
-            Item::Chooses(_) => Due::Refuse(Fault::OutOfPlace),
-            Item::Sets(s) => Due::Put(s, v.a, v.b),
-            Item::Runs => Due::SetUp(m),
-            Item::Asks(_) => Due::Refuse(Fault::OutOfPlace),
-        },
-        Phase::Running(m) => match i {
-            Item::Malformed => Due::Refuse(Fault::WrongForm),
-            Item::Chooses(_) => Due::Refuse(Fault::OutOfPlace),
-            Item::Sets(_) => Due::Refuse(Fault::OutOfPlace),
-            Item::Runs => Due::Refuse(Fault::OutOfPlace),
-            Item::Asks(code) => Due::Request(m, code, v.a, v.b, v.c),
-        },
+    match (p, i) {
+        (Phase::Opening, Item::Chooses(m)) => Ok(Due::Choose(m)),
+        (Phase::Opening, _) => Err(Fault::WrongForm),
+        (Phase::SettingUp(_), Item::Sets(s)) => Ok(Due::Put(s, v.a, v.b)),
+        (Phase::SettingUp(m), Item::Runs) => Ok(Due::SetUp(m)),
+        (Phase::Running(m), Item::Asks(code)) => Ok(Due::Request(m, code, v.a, v.b, v.c)),
+        _ => Err(Fault::OutOfPlace),
     }
 }
 
 // What is due for a line in a phase.
-pub fn due_of(p: Phase, l: Line) -> Due
-    ensures { result ≡ due_of p l }
+#[tactic(auto, unfolding(crate::specs::Words::due_of, crate::specs::Words::due_if))]
+pub fn due_of(p: Phase, line: Option<Line>) -> Result<Due, Fault>
+    ensures { result ≡ due_of p line }
 {
-    match l {
-        Line::Read(w, fs) => {
-            let v = numbers_of(fs);
-            due_in(p, item_in(p, w, v.count), v)
-        }
-        Line::Refused => Due::Refuse(Fault::WrongForm),
-    }
+    let Line { word, fields } = line.ok_or(Fault::WrongForm)?;
+    let v = numbers_of(fields);
+    let i = item_in(p, word, v.count).ok_or(Fault::WrongForm)?;
+    due_in(p, i, v)
 }

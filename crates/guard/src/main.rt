@@ -3,22 +3,29 @@
 
 ghost use Rattle.std.specs.Prelude.{◌≡◌, ◌↔◌, IsTrue};
 ghost use Rattle.std.specs.IoError.{error_kind};
-ghost use Rattle.transcript.specs.Stream.{standing, started};
+ghost use Rattle.transcript.specs.Stream.{standing};
 ghost use Rattle.guard.specs.Block.{Behind, beginning, Led};
 
+use entries::Phase;
+use ledger::Ledger;
+use output::ROW;
 use std::io;
 use std::io::{ErrorKind, Read, Stdin, Stdout, Write};
 use std::process::ExitCode;
 use table::layout::WORDS;
-use transcript::Progress;
+use transcript::{Progress, Served};
 
-// What came of input: where the transcript stands, whether all was read and written, and whether the output is a pipe that nobody
-// reads any more.
+// The bytes that are read, and those that are written, at once.
+const ROOM: usize = 65536;
+
+// More reads than any run uses up.
+const READS: u64 = 1 << 46;
+
+// Why not all was read and written: since nobody reads the pipe of the output any more, or for another reason.
 #[derive(Clone, Copy)]
-struct Block {
-    progress: Progress,
-    whole: bool,
-    closed: bool,
+enum Stopped {
+    Closed,
+    Unfinished,
 }
 
 // Whether a write failed since nobody reads the pipe any more.
@@ -28,159 +35,105 @@ fn is_closed(e: &io::Error) -> bool
     e.kind() == ErrorKind::BrokenPipe
 }
 
-// Serves a whole block, and writes what comes of it.
-fn serve_block(
-    stdout: &mut Stdout,
-    p: Progress,
-    table: &mut [u64],
-    juniors: &mut [u64],
-    permissions: &mut [u64],
-    clearances: &mut [u8],
-    labels: &mut [u8],
-    block: &[u8],
-    out: &mut [u8],
-) -> Block
-    ensures { Behind result.whole (standing p table.old juniors.old permissions.old clearances.old labels.old) block.now (standing result.progress table.new juniors.new permissions.new clearances.new labels.new) }
-{
-    let mut q = p;
-    let mut at: usize = 0;
-    while at < block.len() {
-        let r = transcript::serve(
-            q,
-            table,
-            juniors,
-            permissions,
-            clearances,
-            labels,
-            block,
-            at,
-            out,
-        );
-        let used = r.used;
-        let next = r.next;
-        q = r.progress;
-        if let Err(e) = stdout.write_all(&out[..used]) {
-            return Block {
-                progress: q,
-                whole: false,
-                closed: is_closed(&e),
-            };
+impl From<io::Error> for Stopped {
+    fn from(e: io::Error) -> Self {
+        if is_closed(&e) {
+            return Stopped::Closed;
         }
-        if next <= at {
-            return Block {
-                progress: q,
-                whole: false,
-                closed: false,
-            };
-        }
-        at = next;
-    }
-    Block {
-        progress: q,
-        whole: true,
-        closed: false,
+        Stopped::Unfinished
     }
 }
 
-// Reads the input to its end. The turns are more than any run uses up.
-fn serve_all(
-    stdin: &mut Stdin,
-    stdout: &mut Stdout,
-    table: &mut [u64],
-    juniors: &mut [u64],
-    permissions: &mut [u64],
-    clearances: &mut [u8],
-    labels: &mut [u8],
-    block: &mut [u8],
-    out: &mut [u8],
-) -> Block
-    requires { standing started table.old juniors.old permissions.old clearances.old labels.old ≡ beginning }
-    ensures { Led result.whole (standing result.progress table.new juniors.new permissions.new clearances.new labels.new) }
-{
-    let mut q = transcript::start();
-    let mut turns: u64 = 70368744177664;
-    while turns > 0 {
-        let Ok(n) = stdin.read(block) else {
-            return Block {
-                progress: q,
-                whole: false,
-                closed: false,
-            };
-        };
-        if n == 0 {
-            return Block {
-                progress: q,
-                whole: true,
-                closed: false,
-            };
+// A transcript between the input and the output.
+#[derive(Drop)]
+struct Program<'a> {
+    stdin: Stdin,
+    stdout: Stdout,
+    kept: Ledger<'a>,
+    progress: Progress,
+}
+
+impl Program<'_> {
+    // Serves a whole block, and writes what comes of it.
+    fn serve_block(&mut self, block: &[u8], out: &mut [u8]) -> Result<(), Stopped>
+        ensures { Behind result (standing self.old.progress self.old.kept) block.now (standing self.new.progress self.new.kept) }
+    {
+        let mut rest = block;
+        while !rest.is_empty() {
+            let Served { read, written } = self.progress.serve(&mut self.kept, rest, out);
+            self.stdout.write_all(&out[..written])?;
+            if read == 0 {
+                return Err(Stopped::Unfinished);
+            }
+            rest = &rest[read..];
         }
-        let b = serve_block(
-            stdout,
-            q,
-            table,
-            juniors,
-            permissions,
-            clearances,
-            labels,
-            &block[..n],
-            out,
-        );
-        q = b.progress;
-        if !b.whole {
-            return b;
+        Ok(())
+    }
+
+    // Reads the input to its end.
+    fn serve_all(&mut self) -> Result<(), Stopped>
+        requires { standing self.old.progress self.old.kept ≡ beginning }
+        ensures { Led result (standing self.new.progress self.new.kept) }
+    {
+        let mut block = [0; ROOM];
+        let mut out = [0; ROOM];
+        for _ in 0..READS {
+            let Ok(n) = self.stdin.read(&mut block) else {
+                return Err(Stopped::Unfinished);
+            };
+            if n == 0 {
+                return Ok(());
+            }
+            self.serve_block(&block[..n], &mut out)?;
         }
-        turns -= 1;
+        Err(Stopped::Unfinished)
     }
-    Block {
-        progress: q,
-        whole: false,
-        closed: false,
-    }
+}
+
+// The header, a row for each line of the input, and what its end does.
+fn run(rt: &HostRuntime) -> Result<(), Stopped> {
+    let mut stdout = rt.stdout();
+    stdout.write_all(&output::header())?;
+    let mut table = [0; WORDS];
+    let mut juniors = [0; 64];
+    let mut permissions = [0; 8];
+    let mut clearances = [0; 64];
+    let mut labels = [0; 64];
+    let mut program = Program {
+        stdin: rt.stdin(),
+        stdout,
+        kept: Ledger {
+            phase: Phase::Opening,
+            table: &mut table,
+            juniors: &mut juniors,
+            permissions: &mut permissions,
+            clearances: &mut clearances,
+            labels: &mut labels,
+        },
+        progress: Progress::start(),
+    };
+    program.serve_all()?;
+    let mut last = [0; ROW];
+    let n = program.progress.conclude(&mut last);
+    program.stdout.write_all(&last[..n])?;
+    Ok(())
 }
 
 // Says on standard error that not all was read and written. The exit status says it of a closed pipe alone: 141, that of a program
 // which the signal of a closed pipe ends, for this one is not ended by it.
-fn complain(rt: &HostRuntime, closed: bool) -> ExitCode {
+fn complain(rt: &HostRuntime, stopped: Stopped) -> ExitCode {
     let _ = rt
         .stderr()
         .write_all(b"guard: not all was read and written\n");
-    if closed {
-        return ExitCode::from(141);
+    match stopped {
+        Stopped::Closed => ExitCode::from(141),
+        Stopped::Unfinished => ExitCode::SUCCESS,
     }
-    ExitCode::SUCCESS
 }
 
 fn main(rt: HostRuntime) -> ExitCode {
-    let mut stdin = rt.stdin();
-    let mut stdout = rt.stdout();
-    let head = output::header();
-    if let Err(e) = stdout.write_all(&head) {
-        return complain(&rt, is_closed(&e));
+    match run(&rt) {
+        Ok(()) => ExitCode::SUCCESS,
+        Err(stopped) => complain(&rt, stopped),
     }
-    let mut table = [0u64; WORDS];
-    let mut juniors = [0u64; 64];
-    let mut permissions = [0u64; 8];
-    let mut clearances = [0u8; 64];
-    let mut labels = [0u8; 64];
-    let mut block = [0u8; 65536];
-    let mut out = [0u8; 65536];
-    let b = serve_all(
-        &mut stdin,
-        &mut stdout,
-        &mut table,
-        &mut juniors,
-        &mut permissions,
-        &mut clearances,
-        &mut labels,
-        &mut block,
-        &mut out,
-    );
-    if !b.whole {
-        return complain(&rt, b.closed);
-    }
-    let k = transcript::conclude(b.progress, &mut out);
-    if let Err(e) = stdout.write_all(&out[..k]) {
-        return complain(&rt, is_closed(&e));
-    }
-    ExitCode::SUCCESS
 }

@@ -2,6 +2,7 @@
 pub mod Above
 pub mod Roles
 pub mod Rows
+pub mod Behind
 pub mod Reading
 pub mod Writing
 pub mod Accepting

@@ -7,7 +7,7 @@ use Rattle.bits.specs.Words.{has, pack, ◌with◌}
 use Rattle.bits.specs.Sets.{each}
 use Rattle.bits.proofs.Truth.{clash, same_truth}
 use Rattle.bits.proofs.Word.{has_zero, has_pack, with_lt, with_elim, with_new, with_old}
-use Rattle.bits.proofs.Members.{each_intro, each_elim}
+use Rattle.bits.proofs.Membership.{each_intro, each_elim}
 use Rattle.table.specs.State.{State}
 use Rattle.table.specs.Authority.{senior, authorised}
 use Rattle.table.proofs.State.{authorised_intro, authorised_elim}

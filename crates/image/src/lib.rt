@@ -89,30 +89,17 @@ const LINKS: [u64; 64] = [
 const PERMITTED_OBJECTS: [u64; 8] = [0xffffffffffffffff, 0xffffffffffffffff, 0, 0, 0, 0, 0, 0];
 
 // Whether the direct juniors of the roles are those of an image.
-fn links_fit(t: &[u64]) -> bool
-    requires { length t.now ≡ table_length }
+fn links_fit(t: &[u64; WORDS]) -> bool
     ensures { result ≡ links_fit (state t.now) }
 {
-    let rows = LINKS;
-    for r in 0..64 {
-        if t[DIRECT + r] != rows[r] {
-            return false;
-        }
-    }
-    true
+    t[DIRECT..DIRECT + 64] == LINKS[..]
 }
 
 // Whether the permissions are those of modes 0 and 1.
-fn permissions_fit(t: &[u64]) -> bool
-    requires { length t.now ≡ table_length }
+fn permissions_fit(t: &[u64; WORDS]) -> bool
     ensures { result ≡ permissions_fit (state t.now) }
 {
-    for x in 0..8 {
-        if t[PERMITTED + x] != PERMITTED_OBJECTS[x] {
-            return false;
-        }
-    }
-    true
+    t[PERMITTED..PERMITTED + 8] == PERMITTED_OBJECTS[..]
 }
 
 // The label of the lowest role.
@@ -130,35 +117,24 @@ fn cleared_roles(c: usize) -> u64
 }
 
 // Whether every user has exactly a clearance role and role 32.
-fn users_fit(t: &[u64]) -> bool
-    requires { length t.now ≡ table_length }
+fn users_fit(t: &[u64; WORDS]) -> bool
     ensures { result ≡ users_fit (state t.now) }
 {
-    for u in 0..64 {
+    (0..64).all(|u| {
         let roles = t[ASSIGNED + u];
-        if roles != cleared_roles(label_of(roles)) {
-            return false;
-        }
-    }
-    true
+        roles == cleared_roles(label_of(roles))
+    })
 }
 
 // Whether every object is granted to the read role and to the write role of one label alone.
-fn objects_fit(t: &[u64]) -> bool
-    requires { length t.now ≡ table_length }
+fn objects_fit(t: &[u64; WORDS]) -> bool
     ensures { result ≡ objects_fit (state t.now) }
 {
-    for o in 0..64 {
+    (0..64).all(|o| {
         let readers = t[GRANTED + o];
-        let l = label_of(readers);
-        if readers != bits::with(0, l) {
-            return false;
-        }
-        if t[GRANTED + 64 + o] != bits::with(0, 32 + l) {
-            return false;
-        }
-    }
-    true
+        let label = label_of(readers);
+        readers == bits::with(0, label) && t[GRANTED + 64 + o] == bits::with(0, 32 + label)
+    })
 }
 
 // The roles of the session that a word of its user and its active roles show.
@@ -173,42 +149,28 @@ fn seat_roles(owner: u64, roles: u64) -> u64
 }
 
 // Whether every session has exactly the two roles of its level, and an idle one none.
-fn levels_fit(t: &[u64]) -> bool
-    requires { length t.now ≡ table_length }
+fn levels_fit(t: &[u64; WORDS]) -> bool
     ensures { result ≡ levels_fit (state t.now) }
 {
-    for s in 0..32 {
+    (0..32).all(|s| {
         let roles = t[ACTIVE + s];
-        if roles != seat_roles(t[OWNER + s], roles) {
-            return false;
-        }
-    }
-    true
+        roles == seat_roles(t[OWNER + s], roles)
+    })
 }
 
 // Whether a sound table is the image of a machine state; no for a list that is no table.
 pub fn is_image(t: &[u64]) -> bool
     ensures { result ≡ shows_image t.now }
 {
-    if t.len() != WORDS {
+    let Some(table) = t.as_array::<WORDS>() else {
         return false;
-    }
-    if !links_fit(t) {
-        return false;
-    }
-    if !permissions_fit(t) {
-        return false;
-    }
-    if !users_fit(t) {
-        return false;
-    }
-    if !objects_fit(t) {
-        return false;
-    }
-    if !levels_fit(t) {
-        return false;
-    }
-    separation::sets_empty(t)
+    };
+    links_fit(table)
+        && permissions_fit(table)
+        && users_fit(table)
+        && objects_fit(table)
+        && levels_fit(table)
+        && separation::sets_empty(table)
 }
 
 // How the labels of two numbers stand.
@@ -225,15 +187,10 @@ fn is_above(r: usize, q: usize) -> bool
     ensures { result ≡ above r q }
 {
     if r < 32 {
-        if 32 <= q {
-            return false;
-        }
-        return standing_of(r, q).equal_or_above();
+        q < 32 && standing_of(r, q).equal_or_above()
+    } else {
+        32 <= q && standing_of(q - 32, r - 32).equal_or_above()
     }
-    if q < 32 {
-        return false;
-    }
-    standing_of(q - 32, r - 32).equal_or_above()
 }
 
 // The juniors of role r, and the role.
@@ -253,53 +210,33 @@ fn junior_roles(r: usize) -> u64
 fn seniority_words() -> [u64; 64]
     ensures { result ≡ tabulate 64 (λ r. pack 64 (above r)) }
 {
-    let mut words = [0; 64];
-    for r in 0..64 {
-        words[r] = junior_roles(r);
-    }
-    words
+    std::array::from_fn(junior_roles)
 }
 
-// Whether the 64 values are labels.
-fn are_labels(values: &[u8]) -> bool
-    requires { length values.now ≡ 64 }
+// Whether the values are labels.
+fn are_labels(values: &[u8; 64]) -> bool
     ensures { result ≡ are_labels values.now }
 {
-    for i in 0..64 {
-        if 31 < values[i] {
-            return false;
-        }
-    }
-    true
+    values.iter().all(|value| *value < 32)
 }
 
 // The roles of 64 users by their clearances.
-fn assigned_words(clearances: &[u8]) -> [u64; 64]
-    requires { length clearances.now ≡ 64 }
+fn assigned_words(clearances: &[u8; 64]) -> [u64; 64]
     ensures { result ≡ tabulate 64 (λ u. cleared_roles (get_or clearances.now u 0)) }
 {
-    let mut words = [0; 64];
-    for u in 0..64 {
-        words[u] = cleared_roles(clearances[u] as usize);
-    }
-    words
+    std::array::from_fn(|u| cleared_roles(clearances[u] as usize))
 }
 
 // For each of 64 labels the role that stands as far behind the first as the label is large.
-fn granted_words(labels: &[u8], first: usize) -> [u64; 64]
-    requires { (length labels.now ≡ 64) × (first ≤ 32) }
+fn granted_words(labels: &[u8; 64], first: usize) -> [u64; 64]
+    requires { first ≤ 32 }
     ensures { result ≡ tabulate 64 (λ o. 0 with (first + get_or labels.now o 0)) }
 {
-    let mut words = [0; 64];
-    for o in 0..64 {
-        words[o] = bits::with(0, first + labels[o] as usize);
-    }
-    words
+    std::array::from_fn(|o| bits::with(0, first + labels[o] as usize))
 }
 
 // Writes the image of the machine with these clearances and labels, all sessions idle.
-fn write_image(t: &mut [u64], clearances: &[u8], labels: &[u8])
-    requires { (length t.old ≡ table_length) × (length clearances.now ≡ 64) × (length labels.now ≡ 64) }
+fn write_image(t: &mut [u64; WORDS], clearances: &[u8; 64], labels: &[u8; 64])
     ensures { t.new ≡ image (begin clearances.now labels.now) }
 {
     table::overlay(t, 0, &seniority_words());
@@ -316,21 +253,12 @@ pub fn label_setup(t: &mut [u64], clearances: &[u8], labels: &[u8]) -> Answer
     ensures answer { number_of result ≡ (label_set_up t.old clearances.now labels.now).answer }
     ensures table { t.new ≡ (label_set_up t.old clearances.now labels.now).state }
 {
-    if t.len() != WORDS {
-        return Answer::Refused(Refusal::WrongLength);
+    let table = t.as_mut_array::<WORDS>().ok_or(Refusal::WrongLength)?;
+    let clearances = clearances.as_array::<64>().ok_or(Refusal::BadListLength)?;
+    let labels = labels.as_array::<64>().ok_or(Refusal::BadListLength)?;
+    if !(are_labels(clearances) && are_labels(labels)) {
+        return Err(Refusal::BadValue);
     }
-    if clearances.len() != 64 {
-        return Answer::Refused(Refusal::BadListLength);
-    }
-    if labels.len() != 64 {
-        return Answer::Refused(Refusal::BadListLength);
-    }
-    if !are_labels(clearances) {
-        return Answer::Refused(Refusal::BadValue);
-    }
-    if !are_labels(labels) {
-        return Answer::Refused(Refusal::BadValue);
-    }
-    write_image(t, clearances, labels);
-    Answer::Yes
+    write_image(table, clearances, labels);
+    Ok(true)
 }

@@ -35,12 +35,12 @@ pub clauses : {r : LabelAnswer} {t : List ℕ} {o : Outcome (List ℕ)} → Repl
     → record { answer : number_of r.answer ≡ o.answer; spent : r.spent ≡ o.spent; table : t ≡ o.state }
 clauses p = record { answer = p.answer; spent = p.spent; table = p.table }
 
-pub refused_clauses : {k f : ℕ} {t : List ℕ} {o : Outcome (List ℕ)} (n : ℕ) → o ≡ refuse n t → k ≡ n → f ≡ 0
-    → record { answer : k ≡ o.answer; spent : f ≡ o.spent; table : t ≡ o.state }
-refused_clauses n e a b = record {
+pub refused_clauses : {k f : ℕ} {t t' : List ℕ} {o : Outcome (List ℕ)} (n : ℕ) → o ≡ refuse n t → k ≡ n → f ≡ 0 → t' ≡ t
+    → record { answer : k ≡ o.answer; spent : f ≡ o.spent; table : t' ≡ o.state }
+refused_clauses n e a b d = record {
   answer = a ∙ sym (ap (λ (p : Outcome (List ℕ)). p.answer) e);
   spent = b ∙ sym (ap (λ (p : Outcome (List ℕ)). p.spent) e);
-  table = sym (ap (λ (p : Outcome (List ℕ)). p.state) e);
+  table = d ∙ sym (ap (λ (p : Outcome (List ℕ)). p.state) e);
 }
 
 pub clauses_as : {k f : ℕ} {t : List ℕ} {o o' : Outcome (List ℕ)} → o ≡ o' → record { answer : k ≡ o'.answer; spent : f ≡ o'.spent; table : t ≡ o'.state }

@@ -7,7 +7,7 @@ ghost use Rattle.table.specs.Reading.{state};
 ghost use Rattle.table.specs.Table.{table_length};
 ghost use Rattle.requests.specs.Request.{ask};
 ghost use Rattle.rbac.specs.Guard.{sound_step};
-ghost use Rattle.requests.specs.Answer.{number_of};
+ghost use Rattle.requests.specs.Answer.{refusal_number, number_of};
 ghost use Rattle.machine.specs.Machine.{reclearing, limits, in_range, decode};
 ghost use Rattle.labels.specs.Guard.{single, says_yes, plan, carry_out, label_step, image_step};
 ghost use Rattle.labels.specs.Reply.{Replied};
@@ -24,25 +24,25 @@ pub struct LabelAnswer {
 
 // A refusal spends nothing.
 fn refused(why: Refusal) -> LabelAnswer
-    ensures answer { number_of result.answer ≡ number_of (Answer.Refused why) }
+    ensures answer { number_of result.answer ≡ refusal_number why }
     ensures spent { result.spent ≡ 0 }
 {
     LabelAnswer {
-        answer: Answer::Refused(why),
+        answer: Err(why),
         spent: 0,
     }
 }
 
 // Makes one role request; whether its answer is yes.
-fn is_yes(t: &mut [u64], code: u64, a: u64, b: u64) -> bool
+fn is_yes(t: &mut [u64; WORDS], code: u64, a: u64, b: u64) -> bool
     ensures answer { result ≡ says_yes sound_step t.old (ask code a b 0) }
     ensures table { t.new ≡ (sound_step t.old (ask code a b 0)).state }
 {
-    requests::number(roles::serve(t, code, a, b, 0)) == 1
+    roles::serve(t, code, a, b, 0) == Ok(true)
 }
 
 // A label request that is one role request.
-fn single(t: &mut [u64], code: u64, a: u64, b: u64, c: u64) -> LabelAnswer
+fn single(t: &mut [u64; WORDS], code: u64, a: u64, b: u64, c: u64) -> LabelAnswer
     ensures { Replied result t.new (carry_out sound_step t.old (single sound_step t.old (ask code a b c))) }
 {
     LabelAnswer {
@@ -61,14 +61,14 @@ fn level_roles(y: u64) -> u64
 }
 
 // User u gets the clearance c: the new role before the old one is taken, and taken back where a session needs the old one.
-fn reclear(t: &mut [u64], u: u64, c: u64) -> LabelAnswer
-    requires { (length t.old ≡ table_length) × (u < 64) }
+fn reclear(t: &mut [u64; WORDS], u: u64, c: u64) -> LabelAnswer
+    requires { u < 64 }
     ensures { Replied result t.new (carry_out sound_step t.old (plan sound_step t.old (reclearing u c))) }
 {
     let old = image::label_of(t[ASSIGNED + u as usize]) as u64;
     if old == c {
         return LabelAnswer {
-            answer: Answer::Yes,
+            answer: Ok(true),
             spent: 0,
         };
     }
@@ -76,18 +76,18 @@ fn reclear(t: &mut [u64], u: u64, c: u64) -> LabelAnswer
     if !is_yes(t, 8, u, old) {
         is_yes(t, 8, u, c);
         return LabelAnswer {
-            answer: Answer::No,
+            answer: Ok(false),
             spent: 3, // codes 7, 8 and 8
         };
     }
     LabelAnswer {
-        answer: Answer::Yes,
+        answer: Ok(true),
         spent: 2, // codes 7 and 8
     }
 }
 
 // The largest value of each argument, a row for each code from 1 on; one that is not listed must be 0.
-const LIMITS: [[u64; 3]; 5] = [
+static LIMITS: [[u64; 3]; 5] = [
     [31, 63, 1],
     [31, 63, 1],
     [31, 63, 31],
@@ -96,8 +96,8 @@ const LIMITS: [[u64; 3]; 5] = [
 ];
 
 // The label request of a code from 1 to 5, with its arguments in range.
-fn perform(t: &mut [u64], code: u64, a: u64, b: u64, c: u64) -> LabelAnswer
-    requires { (length t.old ≡ table_length) × (1 ≤ code) × (code ≤ 5) × (in_range (ask code a b c) ≡ true) }
+fn perform(t: &mut [u64; WORDS], code: u64, a: u64, b: u64, c: u64) -> LabelAnswer
+    requires { (1 ≤ code) × (code ≤ 5) × (in_range (ask code a b c) ≡ true) }
     ensures { Replied result t.new (carry_out sound_step t.old (plan sound_step t.old (decode (ask code a b c)))) }
 {
     match code {
@@ -109,38 +109,22 @@ fn perform(t: &mut [u64], code: u64, a: u64, b: u64, c: u64) -> LabelAnswer
     }
 }
 
-// The label request of a code from 1 to 5 with its row of LIMITS, on a table of the right length.
-fn serve_code(t: &mut [u64], code: u64, largest: [u64; 3], a: u64, b: u64, c: u64) -> LabelAnswer
-    requires { (length t.old ≡ table_length) × (1 ≤ code) × (code ≤ 5) × (largest ≡ get_or limits (code - 1) []) }
-    ensures answer { number_of result.answer ≡ (image_step t.old (ask code a b c)).answer }
-    ensures spent { result.spent ≡ (image_step t.old (ask code a b c)).spent }
-    ensures table { t.new ≡ (image_step t.old (ask code a b c)).state }
-{
-    if !requests::within(largest, a, b, c) {
-        return refused(Refusal::BadArgument);
-    }
-    perform(t, code, a, b, c)
-}
-
-// A label request on a table that is known to be a sound image: `request` without these two tests. (The code is looked at once,
-// and each row is read by a constant index, so that the table of rows is not built on the stack at each call.)
+// A label request on a table that is known to be a sound image: `request` without these two tests.
 pub fn serve(t: &mut [u64], code: u64, a: u64, b: u64, c: u64) -> LabelAnswer
     ensures answer { number_of result.answer ≡ (image_step t.old (ask code a b c)).answer }
     ensures spent { result.spent ≡ (image_step t.old (ask code a b c)).spent }
     ensures table { t.new ≡ (image_step t.old (ask code a b c)).state }
 {
-    if t.len() != WORDS {
+    let Some(table) = t.as_mut_array::<WORDS>() else {
         return refused(Refusal::WrongLength);
+    };
+    if code < 1 || 5 < code {
+        return refused(Refusal::BadCode);
     }
-    let rows = LIMITS; // named once: the check builds a constant anew wherever it is named
-    match code {
-        1 => serve_code(t, 1, rows[0], a, b, c),
-        2 => serve_code(t, 2, rows[1], a, b, c),
-        3 => serve_code(t, 3, rows[2], a, b, c),
-        4 => serve_code(t, 4, rows[3], a, b, c),
-        5 => serve_code(t, 5, rows[4], a, b, c),
-        _ => refused(Refusal::BadCode),
+    if !requests::within(LIMITS[code as usize - 1], a, b, c) {
+        return refused(Refusal::BadArgument);
     }
+    perform(table, code, a, b, c)
 }
 
 // A label request on a lent table of any length and contents.

@@ -5,6 +5,7 @@ use mathlib.Core.Bool.{Bool, not}
 use mathlib.Core.List.{List}
 use native.Mathlib.Omega.{arith}
 use lib.Dec.{leb}
+use Rattle.std.specs.Prelude.{Result, Ok, Err}
 use borrow.Author.Tests.{eqb-true, ne_eqb}
 use Rattle.bits.specs.Words.{◌and◌, when◌then◌else◌}
 use Rattle.bits.proofs.Truth.{if_false, by_if}
@@ -20,8 +21,9 @@ use Rattle.entries.specs.declared.Phase.{Phase}
 use Rattle.entries.specs.declared.Phase.TheVariants.{Opening, SettingUp, Running}
 use Rattle.entries.specs.declared.Setting.{Setting}
 use Rattle.entries.specs.declared.Setting.TheVariants.{Juniors, Permissions, Clearances, Labels}
+use Rattle.entries.specs.declared.Fault.{Fault}
 use Rattle.entries.specs.declared.Due.{Due}
-use Rattle.entries.specs.declared.Due.TheVariants.{Refuse, Choose, Put, SetUp, Request}
+use Rattle.entries.specs.declared.Due.TheVariants.{Choose, Put, SetUp, Request}
 use Rattle.ledger.specs.Store.{Store, with_phase, with_table, with_juniors, with_permissions, with_clearances, with_labels, added, stored}
 use Rattle.ledger.specs.Step.{guarded, unguarded, asked, set_up_by, lifted, put, phase_after, ran, performed, step}
 use Rattle.ledger.specs.Claims.{SoundFor, SoundIn, StoreSound, StaysSound, ServedSame, RefusedLeaves}
@@ -57,20 +59,17 @@ asked_refused RoleMode t q s h = role_refused t q h
 asked_refused LatticeMode t q s h = label_refused t q s h
 
 module _ (d : Store) where
-  abbrev pub set_up_of : Mode → Outcome (List ℕ)
-  set_up_of m = set_up_by m d.table d.juniors d.permissions d.clearances d.labels
-
-  pub made_sound : (m : Mode) → (set_up_of m).answer ≡ 1 → SoundFor m (set_up_of m).state
+  pub made_sound : (m : Mode) → (set_up_by m d).answer ≡ 1 → SoundFor m (set_up_by m d).state
   unfolding SoundFor set_up_by
   made_sound RoleMode a = set_up_sound d.table d.juniors d.permissions a
   made_sound LatticeMode a = label_set_up_sound d.table d.clearances d.labels a
 
-  pub made_same : (m : Mode) → ((set_up_of m).answer ≡ 1 → ⊥) → (set_up_of m).state ≡ d.table
+  pub made_same : (m : Mode) → ((set_up_by m d).answer ≡ 1 → ⊥) → (set_up_by m d).state ≡ d.table
   unfolding set_up_by
   made_same RoleMode h = set_up_refused d.table d.juniors d.permissions h
   made_same LatticeMode h = label_set_up_refused d.table d.clearances d.labels h
 
-  made_spends : (m : Mode) → 0 ≡ (set_up_of m).spent
+  made_spends : (m : Mode) → 0 ≡ (set_up_by m d).spent
   unfolding set_up_by
   made_spends RoleMode = set_up_spends d.table d.juniors d.permissions
   made_spends LatticeMode = label_set_up_spends d.table d.clearances d.labels
@@ -92,13 +91,13 @@ ran_sound : (d : Store) (m : Mode) (o : Outcome (List ℕ)) → (o.answer ≡ 1 
 unfolding ran lifted phase_after SoundIn
 ran_sound d m o f = by_if (λ (p : Phase). SoundIn p o.state) _ (λ e. f (eqb-true _ _ e)) (λ e. tt)
 
-due_sound : (d : Store) (x : Due) → StoreSound d → Fits d.phase x → StoreSound (performed guarded d x).state
+due_sound : (d : Store) (x : Result Due Fault) → StoreSound d → Fits d.phase x → StoreSound (performed guarded d x).state
 unfolding performed lifted SoundIn
-due_sound d (Refuse f) h p = h
-due_sound d (Choose m) h p = tt
-due_sound d (Put s i v) h p = put_sound d s i v h
-due_sound d (SetUp m) h p = ran_sound d m (set_up_of d m) (made_sound d m)
-due_sound d (Request m code a b c) h p =
+due_sound d (Err f) h p = h
+due_sound d (Ok (Choose m)) h p = tt
+due_sound d (Ok (Put s i v)) h p = put_sound d s i v h
+due_sound d (Ok (SetUp m)) h p = ran_sound d m (set_up_by m d) (made_sound d m)
+due_sound d (Ok (Request m code a b c)) h p =
     rw p.0 (asked_sound m d.table (ask code a b c) (rw p.0 at h))
 
 pub stays_sound : StaysSound
@@ -107,13 +106,13 @@ stays_sound d l h = due_sound d (due_of d.phase l) h (due_fits d.phase l)
 
 -- ---- the same without the soundness test
 
-due_same : (d : Store) (x : Due) → StoreSound d → Fits d.phase x → performed unguarded d x ≡ performed guarded d x
+due_same : (d : Store) (x : Result Due Fault) → StoreSound d → Fits d.phase x → performed unguarded d x ≡ performed guarded d x
 unfolding performed SoundIn
-due_same d (Refuse f) h p = refl
-due_same d (Choose m) h p = refl
-due_same d (Put s i v) h p = refl
-due_same d (SetUp m) h p = refl
-due_same d (Request m code a b c) h p =
+due_same d (Err f) h p = refl
+due_same d (Ok (Choose m)) h p = refl
+due_same d (Ok (Put s i v)) h p = refl
+due_same d (Ok (SetUp m)) h p = refl
+due_same d (Ok (Request m code a b c)) h p =
     let s : SoundIn (Running m) d.table = rw p.0 at h in
     ap (lifted (with_table d)) (asked_same m d.table (ask code a b c) s)
 
@@ -151,13 +150,13 @@ ran_refused d m o p t z h =
     let q : phase_after m o.answer ≡ d.phase = if_false _ _ (ne_eqb o.answer 1 (λ e. omega arith)) ∙ sym p in
     (ap₂ (λ (x : List ℕ) (y : Phase). with_phase (with_table d x) y) (t h) q, sym z)
 
-due_left : (d : Store) (x : Due) → StoreSound d → Fits d.phase x → Leaves d (performed guarded d x)
+due_left : (d : Store) (x : Result Due Fault) → StoreSound d → Fits d.phase x → Leaves d (performed guarded d x)
 unfolding performed SoundIn
-due_left d (Refuse f) s p h = (refl, refl)
-due_left d (Choose m) s p h = absurd (omega arith)
-due_left d (Put l i v) s p h = put_refused d l i v h
-due_left d (SetUp m) s p h = ran_refused d m (set_up_of d m) p (λ k. made_same d m (λ e. omega arith)) (made_spends d m) h
-due_left d (Request m code a b c) s p h = lifted_leaves (with_table d) (asked_refused m d.table (ask code a b c) (rw p.0 at s)) h
+due_left d (Err f) s p h = (refl, refl)
+due_left d (Ok (Choose m)) s p h = absurd (omega arith)
+due_left d (Ok (Put l i v)) s p h = put_refused d l i v h
+due_left d (Ok (SetUp m)) s p h = ran_refused d m (set_up_by m d) p (λ k. made_same d m (λ e. omega arith)) (made_spends d m) h
+due_left d (Ok (Request m code a b c)) s p h = lifted_leaves (with_table d) (asked_refused m d.table (ask code a b c) (rw p.0 at s)) h
 
 pub refused_leaves : RefusedLeaves
 unfolding step

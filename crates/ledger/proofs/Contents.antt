@@ -7,6 +7,7 @@ use borrow.Author.Tests.{eq-eqb, ne_eqb}
 use Rattle.bits.proofs.Truth.{if_true, if_false}
 use Rattle.table.specs.Table.{is_table}
 use Rattle.requests.specs.Request.{Ask, ask, Outcome, refuse, accept}
+use Rattle.std.specs.Prelude.{Option, Result, Ok, Err}
 use Rattle.reader.specs.declared.Line.{Line}
 use Rattle.entries.specs.Words.{due_of}
 use Rattle.entries.specs.declared.Mode.{Mode}
@@ -15,14 +16,14 @@ use Rattle.entries.specs.declared.Phase.{Phase}
 use Rattle.entries.specs.declared.Phase.TheVariants.{Opening, SettingUp, Running}
 use Rattle.entries.specs.declared.Setting.{Setting}
 use Rattle.entries.specs.declared.Setting.TheVariants.{Juniors, Permissions, Clearances, Labels}
+use Rattle.entries.specs.declared.Fault.{Fault}
 use Rattle.entries.specs.declared.Due.{Due}
-use Rattle.entries.specs.declared.Due.TheVariants.{Refuse, Choose, Put, SetUp, Request}
+use Rattle.entries.specs.declared.Due.TheVariants.{Choose, Put, SetUp, Request}
 use Rattle.ledger.specs.Store.{Store, with_table}
 use Rattle.ledger.specs.Step.{guarded, asked, set_up_by, lifted, put, phase_after, ran, performed, step}
 use Rattle.entries.proofs.Places.{Fits, due_fits}
 use Rattle.ledger.proofs.Spending.{by_set_up}
 use Rattle.ledger.proofs.Lattice.{by_label_set_up}
-use Rattle.ledger.proofs.Claims.{set_up_of}
 
 -- the tables of two such stores: of any contents before an accepted `run`, and equal behind it
 abbrev pub SameIn : Phase → List ℕ → List ℕ → Type 0
@@ -49,13 +50,13 @@ module _ (d : Store) (u : List ℕ) where
   put_matches Labels i v h = record { answers = refl; spends = refl; stores = refl; tables = h }
 
   by_made : {A : Type 0} (m : Mode) → is_table d.table ≡ is_table u
-      → ((n : ℕ) → (n ≡ 1 → ⊥) → set_up_of d m ≡ refuse n d.table → set_up_of other m ≡ refuse n u → A)
-      → ((new : List ℕ) → set_up_of d m ≡ accept new → set_up_of other m ≡ accept new → A) → A
+      → ((n : ℕ) → (n ≡ 1 → ⊥) → set_up_by m d ≡ refuse n d.table → set_up_by m other ≡ refuse n u → A)
+      → ((new : List ℕ) → set_up_by m d ≡ accept new → set_up_by m other ≡ accept new → A) → A
   unfolding set_up_by
   by_made RoleMode e f g = by_set_up d.table u d.juniors d.permissions e f g
   by_made LatticeMode e f g = by_label_set_up d.table u d.clearances d.labels e f g
 
-  ran_matches : (m : Mode) → is_table d.table ≡ is_table u → Matches (ran d m (set_up_of d m)) (ran other m (set_up_of other m))
+  ran_matches : (m : Mode) → is_table d.table ≡ is_table u → Matches (ran d m (set_up_by m d)) (ran other m (set_up_by m other))
   unfolding ran lifted phase_after
   ran_matches m e =
       by_made m e
@@ -82,14 +83,14 @@ module _ (d : Store) (u : List ℕ) where
     tables = rw p (ap (λ (t : List ℕ). (asked guarded m t q).state) e);
   }
 
-  due_matches : (x : Due) → SameIn d.phase d.table u → Fits d.phase x → Matches (performed guarded d x) (performed guarded other x)
+  due_matches : (x : Result Due Fault) → SameIn d.phase d.table u → Fits d.phase x → Matches (performed guarded d x) (performed guarded other x)
   unfolding performed
-  due_matches (Refuse f) h p = record { answers = refl; spends = refl; stores = refl; tables = h }
-  due_matches (Choose m) h p = record { answers = refl; spends = refl; stores = refl; tables = rw p at h }
-  due_matches (Put s i v) h p = put_matches s i v h
-  due_matches (SetUp m) h p = ran_matches m (rw p at h)
-  due_matches (Request m code a b c) h p = asked_matches m (ask code a b c) p.0 (rw p.0 at h)
+  due_matches (Err f) h p = record { answers = refl; spends = refl; stores = refl; tables = h }
+  due_matches (Ok (Choose m)) h p = record { answers = refl; spends = refl; stores = refl; tables = rw p at h }
+  due_matches (Ok (Put s i v)) h p = put_matches s i v h
+  due_matches (Ok (SetUp m)) h p = ran_matches m (rw p at h)
+  due_matches (Ok (Request m code a b c)) h p = asked_matches m (ask code a b c) p.0 (rw p.0 at h)
 
-  pub line_matches : (l : Line) → SameIn d.phase d.table u → Matches (step guarded d l) (step guarded other l)
+  pub line_matches : (l : Option Line) → SameIn d.phase d.table u → Matches (step guarded d l) (step guarded other l)
   unfolding step
   line_matches l h = due_matches (due_of d.phase l) h (due_fits d.phase l)

@@ -1,6 +1,6 @@
 -- What a set-up line does to a list: the laws of `added` and `stored`, case by case. Assumes nothing.
 use Prim.Native.Nat.{ℕ, ◌≤◌, ◌<◌}
-use mathlib.Core.Path.{◌≡◌, refl, sym, ap, ◌∙◌}
+use mathlib.Core.Path.{◌≡◌, sym, ap, ◌∙◌}
 use mathlib.Core.List.{List}
 use lib.Dec.{leb}
 use lib.ListN.{length, get_or, set}
@@ -8,53 +8,39 @@ use lib.Seq.{set_out}
 use borrow.Author.Tests.{le-leb, lt-leb}
 use Rattle.bits.specs.Words.{◌with◌}
 use Rattle.bits.proofs.Truth.{and_intro, false_and, and_false, past, stopped}
-use Rattle.requests.specs.Request.{Outcome, refuse, accept}
-use Rattle.ledger.specs.Store.{added, stored, Comes}
-
--- as the code answers: an outcome that another equals
-pub comes_to : {l : List ℕ} {n spent : ℕ} {o o' : Outcome (List ℕ)} → o ≡ o' → Comes l n spent o' → Comes l n spent o
-comes_to e c = record {
-  list = c.list ∙ sym (ap (λ (p : Outcome (List ℕ)). p.state) e);
-  answer = c.answer ∙ sym (ap (λ (p : Outcome (List ℕ)). p.answer) e);
-  spends = c.spends ∙ sym (ap (λ (p : Outcome (List ℕ)). p.spent) e);
-}
-
-pub comes_refused : (n : ℕ) (l : List ℕ) → Comes l n 0 (refuse n l)
-comes_refused n l = record { list = refl; answer = refl; spends = refl }
-
-pub comes_accepted : (l k : List ℕ) → l ≡ k → Comes l 1 0 (accept k)
-comes_accepted l k e = record { list = e; answer = refl; spends = refl }
+use Rattle.requests.specs.Request.{refuse, accept}
+use Rattle.ledger.specs.Store.{added, stored}
 
 module _ (l : List ℕ) (last i v : ℕ) where
-  pub added_place : last < i → Comes l 19 0 (added l last i v)
+  pub added_place : last < i → refuse 19 l ≡ added l last i v
   unfolding added
-  added_place h = comes_to (stopped _ _ (false_and _ (lt-leb _ _ h))) (comes_refused 19 l)
+  added_place h = sym (stopped _ _ (false_and _ (lt-leb _ _ h)))
 
-  pub added_value : 63 < v → Comes l 19 0 (added l last i v)
+  pub added_value : 63 < v → refuse 19 l ≡ added l last i v
   unfolding added
-  added_value h = comes_to (stopped _ _ (and_false (leb i last) (lt-leb _ _ h))) (comes_refused 19 l)
+  added_value h = sym (stopped _ _ (and_false (leb i last) (lt-leb _ _ h)))
 
-  pub added_there : {w : ℕ} → i ≤ last → v ≤ 63 → w ≡ get_or l i 0 with v → Comes (set l i w) 1 0 (added l last i v)
+  pub added_there : {w : ℕ} → i ≤ last → v ≤ 63 → w ≡ get_or l i 0 with v → accept (set l i w) ≡ added l last i v
   unfolding added
-  added_there p h e = comes_to (past _ _ (and_intro (le-leb _ _ p) (le-leb _ _ h))) (comes_accepted _ _ (ap (set l i) e))
+  added_there p h e = ap (λ (w : ℕ). accept (set l i w)) e ∙ sym (past _ _ (and_intro (le-leb _ _ p) (le-leb _ _ h)))
 
-  pub added_past : i ≤ last → v ≤ 63 → length l ≤ i → Comes l 1 0 (added l last i v)
+  pub added_past : i ≤ last → v ≤ 63 → length l ≤ i → accept l ≡ added l last i v
   unfolding added
-  added_past p h k = comes_to (past _ _ (and_intro (le-leb _ _ p) (le-leb _ _ h))) (comes_accepted _ _ (sym (set_out l i _ k)))
+  added_past p h k = ap accept (sym (set_out l i _ k)) ∙ sym (past _ _ (and_intro (le-leb _ _ p) (le-leb _ _ h)))
 
 module _ (l : List ℕ) (i v : ℕ) where
-  pub stored_place : 63 < i → Comes l 19 0 (stored l i v)
+  pub stored_place : 63 < i → refuse 19 l ≡ stored l i v
   unfolding stored
-  stored_place h = comes_to (stopped _ _ (false_and _ (lt-leb _ _ h))) (comes_refused 19 l)
+  stored_place h = sym (stopped _ _ (false_and _ (lt-leb _ _ h)))
 
-  pub stored_value : 31 < v → Comes l 19 0 (stored l i v)
+  pub stored_value : 31 < v → refuse 19 l ≡ stored l i v
   unfolding stored
-  stored_value h = comes_to (stopped _ _ (and_false (leb i 63) (lt-leb _ _ h))) (comes_refused 19 l)
+  stored_value h = sym (stopped _ _ (and_false (leb i 63) (lt-leb _ _ h)))
 
-  pub stored_there : i ≤ 63 → v ≤ 31 → Comes (set l i v) 1 0 (stored l i v)
+  pub stored_there : i ≤ 63 → v ≤ 31 → accept (set l i v) ≡ stored l i v
   unfolding stored
-  stored_there p h = comes_to (past _ _ (and_intro (le-leb _ _ p) (le-leb _ _ h))) (comes_accepted _ _ refl)
+  stored_there p h = sym (past _ _ (and_intro (le-leb _ _ p) (le-leb _ _ h)))
 
-  pub stored_past : i ≤ 63 → v ≤ 31 → length l ≤ i → Comes l 1 0 (stored l i v)
+  pub stored_past : i ≤ 63 → v ≤ 31 → length l ≤ i → accept l ≡ stored l i v
   unfolding stored
-  stored_past p h k = comes_to (past _ _ (and_intro (le-leb _ _ p) (le-leb _ _ h))) (comes_accepted _ _ (sym (set_out l i v k)))
+  stored_past p h k = ap accept (sym (set_out l i v k)) ∙ sym (past _ _ (and_intro (le-leb _ _ p) (le-leb _ _ h)))

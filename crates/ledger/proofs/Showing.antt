@@ -8,6 +8,7 @@ use lib.Dec.{eqb, leb}
 use lib.ListN.{length, get_or, set, length-set}
 use lib.Seq.{get_or-set_same, get_or-set_other}
 use borrow.Author.Tests.{eqb-true, eqb-false, le-leb, leb-true, lt-ltb, ltb-true}
+use Rattle.std.specs.Prelude.{Result, Ok, Err}
 use Rattle.bits.specs.Words.{◌and◌, ◌or◌}
 use Rattle.bits.proofs.Truth.{by_truth, and_left, and_right, or_left, by_if, past, stopped}
 use Rattle.bits.proofs.Below.{all_intro, all_elim}
@@ -35,14 +36,14 @@ use Rattle.entries.specs.declared.Setting.TheVariants.{Juniors, Permissions, Cle
 use Rattle.entries.specs.declared.Fault.{Fault}
 use Rattle.entries.specs.declared.Fault.TheVariants.{WrongForm, OutOfPlace}
 use Rattle.entries.specs.declared.Due.{Due}
-use Rattle.entries.specs.declared.Due.TheVariants.{Refuse, Choose, Put, SetUp, Request}
+use Rattle.entries.specs.declared.Due.TheVariants.{Choose, Put, SetUp, Request}
 use Rattle.ledger.specs.Store.{Store, with_phase, with_table, added, stored}
 use Rattle.ledger.specs.Step.{guarded, asked, set_up_by, lifted, put, ran, performed, step}
 use Rattle.ledger.specs.Claims.{SoundFor, SoundIn, StoreSound, shows, Proper, LineShows}
 use Rattle.entries.proofs.Places.{most, Fits, due_fits}
 use Rattle.ledger.proofs.Spending.{decided_small}
 use Rattle.ledger.proofs.Lattice.{by_label}
-use Rattle.ledger.proofs.Claims.{set_up_of, asked_sound, made_sound, made_same}
+use Rattle.ledger.proofs.Claims.{asked_sound, made_sound, made_same}
 
 -- ---- lists of labels
 
@@ -91,7 +92,7 @@ unfolding asked guarded SoundFor
 asked_shows RoleMode t q s l h = role_shows t q s l h
 asked_shows LatticeMode t q s l h = by_label t q s l h (λ e. shows_as e listed.2) (λ b y n new old e. shows_small _ (decided_small b y n new old e))
 
-made_shows : (d : Store) (m : Mode) → Proper d → shows (set_up_of d m).answer ≡ true
+made_shows : (d : Store) (m : Mode) → Proper d → shows (set_up_by m d).answer ≡ true
 unfolding set_up_by
 made_shows d RoleMode p =
     by_truth (acyclic (closure d.juniors))
@@ -105,9 +106,9 @@ unfolding SoundFor
 sound_is_table RoleMode t s = sound_table t s
 sound_is_table LatticeMode t s = sound_table t s.0
 
-made_table : (d : Store) (m : Mode) → Proper d → is_table (set_up_of d m).state ≡ true
+made_table : (d : Store) (m : Mode) → Proper d → is_table (set_up_by m d).state ≡ true
 made_table d m p =
-    by_truth (eqb (set_up_of d m).answer 1)
+    by_truth (eqb (set_up_by m d).answer 1)
     (λ e. sound_is_table m _ (made_sound d m (eqb-true _ 1 e)))
     (λ e. ap is_table (made_same d m (eqb-false _ 1 e)) ∙ p.table)
 
@@ -174,13 +175,13 @@ module _ (d : Store) (p : Proper d) where
       let k = stored_shown d.labels a b (p.labels, p.labels_known) in
       (k.0, proper _ p.table p.juniors p.permissions (p.clearances, p.clearances_known) k.1)
 
-due_shown : (d : Store) (x : Due) → StoreSound d → Proper d → Fits d.phase x → Shown (performed guarded d x)
+due_shown : (d : Store) (x : Result Due Fault) → StoreSound d → Proper d → Fits d.phase x → Shown (performed guarded d x)
 unfolding performed lifted ran SoundIn
-due_shown d (Refuse f) s p t = (shows_fault f, p)
-due_shown d (Choose m) s p t = (shows_small 1 (omega arith), with_table_lem d p (SettingUp m) d.table p.table)
-due_shown d (Put l i v) s p t = put_shown d p l i v
-due_shown d (SetUp m) s p t = (made_shows d m p, with_table_lem d p _ _ (made_table d m p))
-due_shown d (Request m code a b c) s p t =
+due_shown d (Err f) s p t = (shows_fault f, p)
+due_shown d (Ok (Choose m)) s p t = (shows_small 1 (omega arith), with_table_lem d p (SettingUp m) d.table p.table)
+due_shown d (Ok (Put l i v)) s p t = put_shown d p l i v
+due_shown d (Ok (SetUp m)) s p t = (made_shows d m p, with_table_lem d p _ _ (made_table d m p))
+due_shown d (Ok (Request m code a b c)) s p t =
     let r : SoundFor m d.table = rw t.0 at s in
     let q = ask code a b c in
     (asked_shows m d.table q r t.1 t.2, with_table_lem d p d.phase _ (sound_is_table m _ (asked_sound m d.table q r)))

@@ -1,7 +1,7 @@
 -- What the code need not be told: a role request answered yes or no spends 1, and everything else of roles mode 0. Assumes nothing.
 use Prim.Native.Nat.{ℕ, ◌<◌, ◌≤◌}
 use mathlib.Core.Path.{◌≡◌, refl, sym, ap, ◌∙◌}
-use mathlib.Core.Bool.{Bool}
+use mathlib.Core.Bool.{Bool, true, false}
 use mathlib.Core.List.{List}
 use native.Mathlib.Omega.{arith}
 use lib.Dec.{eqb}
@@ -12,6 +12,9 @@ use Rattle.bits.proofs.Truth.{by_truth, and_left, and_right}
 use Rattle.table.specs.Table.{is_table}
 use Rattle.table.specs.Reading.{state}
 use Rattle.requests.specs.Request.{Ask, Outcome, refuse, decide, accept}
+use Rattle.requests.specs.Answer.{refusal_number, number_of}
+use Rattle.requests.specs.declared.Refusal.{Refusal}
+use Rattle.std.specs.Prelude.{Result, Ok, Err}
 use Rattle.rbac.specs.Roles.{is_code, in_range, carries_bad_pair, decode, known}
 use Rattle.rbac.specs.Guard.{allowed_sound, changed_sound, sound_step}
 use Rattle.requests.proofs.Outcome.{decide_yes, decide_no}
@@ -20,6 +23,19 @@ use Rattle.rbac.proofs.Guarding.{checked_code, checked_argument, checked_pair, s
 use Rattle.closure.specs.Closure.{closure, acyclic}
 use Rattle.setup.specs.SetUp.{role_set_up}
 use Rattle.setup.proofs.SetUp.{set_up_short, set_up_lists, set_up_cycle, set_up_accepted}
+
+-- ---- answers by their numbers
+
+-- a refusal's number is above 1, and the others are not
+refused_large : (r : Refusal) → 1 < refusal_number r
+refused_large r = grind arith
+
+answered_small : (a : Result Bool Refusal) (b : Bool) → a ≡ Ok b → number_of a ≤ 1
+answered_small a true h = rw h (omega arith)
+answered_small a false h = rw h (omega arith)
+
+pub refused_not_1 : (r : Refusal) → refusal_number r ≡ 1 → ⊥
+refused_not_1 r e = grind (arith, refused_large)
 
 -- ---- role requests
 
@@ -52,14 +68,18 @@ decided_small b y n new old e =
 pub spends : {o o' : Outcome (List ℕ)} → o ≡ o' → o'.spent ≡ o.spent
 spends e = sym (ap (λ (p : Outcome (List ℕ)). p.spent) e)
 
-pub refused_role : (t : List ℕ) (q : Ask) → 1 < (sound_step t q).answer → 0 ≡ (sound_step t q).spent
-refused_role t q h = by_served t q (λ n k e. spends e) (λ b new e. absurd (omega (arith, decided_small b 1 1 new t e)))
+module _ (t : List ℕ) (q : Ask) (a : Result Bool Refusal) (e : number_of a ≡ (sound_step t q).answer) where
+  pub refused_role : (r : Refusal) → a ≡ Err r → 0 ≡ (sound_step t q).spent
+  refused_role r f =
+      let large : 1 < number_of a = rw f (refused_large r) in
+      by_served t q (λ n k d. spends d) (λ b new d. absurd (omega (arith, decided_small b 1 1 new t d)))
 
-pub answered_role : (t : List ℕ) (q : Ask) → (sound_step t q).answer ≤ 1 → 1 ≡ (sound_step t q).spent
-answered_role t q h =
-    by_served t q
-    (λ n k e. absurd (omega (arith, ap (λ (o : Outcome (List ℕ)). o.answer) e)))
-    (λ b new e. by_truth b (λ p. spends (e ∙ decide_yes 1 1 new t p)) (λ p. spends (e ∙ decide_no 1 1 new t p)))
+  pub answered_role : (b : Bool) → a ≡ Ok b → 1 ≡ (sound_step t q).spent
+  answered_role b f =
+      let small = answered_small a b f in
+      by_served t q
+      (λ n k d. absurd (omega (arith, ap (λ (o : Outcome (List ℕ)). o.answer) d)))
+      (λ b new d. by_truth b (λ p. spends (d ∙ decide_yes 1 1 new t p)) (λ p. spends (d ∙ decide_no 1 1 new t p)))
 
 -- ---- the role set-up
 

@@ -1,5 +1,5 @@
 -- What is claimed of a transcript's lines, each as the answer to a question. proofs/Claims.antt and proofs/Showing.antt prove them.
-use Rattle.std.specs.Prelude.{◌<◌, ◌≡◌}
+use Rattle.std.specs.Prelude.{◌<◌, ◌≡◌, Option}
 use Rattle.bits.specs.Words.{ℕ, Bool, true, List, eqb, leb, length, ◌or◌}
 use Rattle.table.specs.Table.{is_table}
 use Rattle.sound.specs.Answers.{is_sound}
@@ -30,20 +30,20 @@ StoreSound d = SoundIn d.phase d.table
 
 -- Does the table stay sound once `run` was accepted? After every line.
 abbrev pub StaysSound : Type 0
-StaysSound = (d : Store) (l : Line) → StoreSound d → StoreSound (step guarded d l).state
+StaysSound = (d : Store) (l : Option Line) → StoreSound d → StoreSound (step guarded d l).state
 
 -- Does it matter that the program pays for no soundness test after `run`? Not to one answer, figure or word.
 abbrev pub ServedSame : Type 0
-ServedSame = (d : Store) (l : Line) → StoreSound d → step unguarded d l ≡ step guarded d l
+ServedSame = (d : Store) (l : Option Line) → StoreSound d → step unguarded d l ≡ step guarded d l
 
 -- what a refused line leaves
-pub record Left (d : Store) (l : Line) : Type 0 where
+pub record Left (d : Store) (l : Option Line) : Type 0 where
   pub unchanged : (step guarded d l).state ≡ d
   pub no_spending : (step guarded d l).spent ≡ 0
 
 -- Does a refused line change or spend anything? Nothing.
 abbrev pub RefusedLeaves : Type 0
-RefusedLeaves = (d : Store) (l : Line) → StoreSound d → 1 < (step guarded d l).answer → Left d l
+RefusedLeaves = (d : Store) (l : Option Line) → StoreSound d → 1 < (step guarded d l).answer → Left d l
 
 -- the numbers that a transcript shows: no and yes, and refusals 10, 11, 16, 17, 19 and 20
 unfoldable pub shows : ℕ → Bool
@@ -62,4 +62,4 @@ pub record Proper (d : Store) : Type 0 where
 -- Which refusals does no line get? 12 to 15, 18 and 21: where the table and the lists are proper, a line shows none of them, and
 -- they stay proper.
 abbrev pub LineShows : Type 0
-LineShows = (d : Store) (l : Line) → StoreSound d → Proper d → (shows (step guarded d l).answer ≡ true) × Proper (step guarded d l).state
+LineShows = (d : Store) (l : Option Line) → StoreSound d → Proper d → (shows (step guarded d l).answer ≡ true) × Proper (step guarded d l).state

@@ -1,5 +1,6 @@
 -- What a line of a transcript comes to: its answer, what it spends, and what is kept after it.
 use Rattle.bits.specs.Words.{ℕ, List, eqb, when◌then◌else◌}
+use Rattle.std.specs.Prelude.{Option, Result, Ok, Err}
 use Rattle.requests.specs.Request.{Ask, ask, Outcome, refuse, accept}
 use Rattle.rbac.specs.Guard.{role_step, sound_step}
 use Rattle.setup.specs.SetUp.{role_set_up}
@@ -12,13 +13,14 @@ use Rattle.entries.specs.declared.Phase.{Phase}
 use Rattle.entries.specs.declared.Phase.TheVariants.{SettingUp, Running}
 use Rattle.entries.specs.declared.Setting.{Setting}
 use Rattle.entries.specs.declared.Setting.TheVariants.{Juniors, Permissions, Clearances, Labels}
+use Rattle.entries.specs.declared.Fault.{Fault}
 use Rattle.entries.specs.declared.Due.{Due}
-use Rattle.entries.specs.declared.Due.TheVariants.{Refuse, Choose, Put, SetUp, Request}
+use Rattle.entries.specs.declared.Due.TheVariants.{Choose, Put, SetUp, Request}
 use Rattle.entries.specs.Words.{fault_number, due_of}
 use Rattle.ledger.specs.Store.{Store, with_phase, with_table, with_juniors, with_permissions, with_clearances, with_labels, added, stored}
 
--- an answer, a figure spent and what is kept
-abbrev pub outcome : ℕ → ℕ → Store → Outcome Store
+-- an answer, a figure spent and what is left
+abbrev pub outcome : {S : Type 0} → ℕ → ℕ → S → Outcome S
 outcome answer spent d = record { answer = answer; spent = spent; state = d }
 
 -- how the requests of the two modes are answered
@@ -40,9 +42,9 @@ asked G RoleMode t q = G.role t q
 asked G LatticeMode t q = G.label t q
 
 -- the set-up of a mode
-unfoldable pub set_up_by : Mode → List ℕ → List ℕ → List ℕ → List ℕ → List ℕ → Outcome (List ℕ)
-set_up_by RoleMode table juniors permissions clearances labels = role_set_up table juniors permissions
-set_up_by LatticeMode table juniors permissions clearances labels = label_set_up table clearances labels
+unfoldable pub set_up_by : Mode → Store → Outcome (List ℕ)
+set_up_by RoleMode d = role_set_up d.table d.juniors d.permissions
+set_up_by LatticeMode d = label_set_up d.table d.clearances d.labels
 
 -- what an outcome for a part of the store is for the whole
 unfoldable pub lifted : (List ℕ → Store) → Outcome (List ℕ) → Outcome Store
@@ -63,14 +65,14 @@ phase_after m answer = when eqb answer 1 then Running m else SettingUp m
 unfoldable pub ran : Store → Mode → Outcome (List ℕ) → Outcome Store
 ran d m o = lifted (λ t. with_phase (with_table d t) (phase_after m o.answer)) o
 
--- what is due is done
-unfoldable pub performed : Guards → Store → Due → Outcome Store
-performed G d (Refuse f) = refuse (fault_number f) d
-performed G d (Choose m) = accept (with_phase d (SettingUp m))
-performed G d (Put s i v) = put d s i v
-performed G d (SetUp m) = ran d m (set_up_by m d.table d.juniors d.permissions d.clearances d.labels)
-performed G d (Request m code a b c) = lifted (with_table d) (asked G m d.table (ask code a b c))
+-- what is due is done, and where nothing is due the line is refused
+unfoldable pub performed : Guards → Store → Result Due Fault → Outcome Store
+performed G d (Err f) = refuse (fault_number f) d
+performed G d (Ok (Choose m)) = accept (with_phase d (SettingUp m))
+performed G d (Ok (Put s i v)) = put d s i v
+performed G d (Ok (SetUp m)) = ran d m (set_up_by m d)
+performed G d (Ok (Request m code a b c)) = lifted (with_table d) (asked G m d.table (ask code a b c))
 
 -- a line: what is due for it where it stands
-unfoldable pub step : Guards → Store → Line → Outcome Store
+unfoldable pub step : Guards → Store → Option Line → Outcome Store
 step G d l = performed G d (due_of d.phase l)

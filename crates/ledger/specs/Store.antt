@@ -1,6 +1,6 @@
 -- What a transcript keeps from line to line, and how a set-up line changes a list.
 use Rattle.bits.specs.Words.{ℕ, not, List, leb, get_or, ◌and◌, when◌then◌else◌, ◌with◌}
-use Rattle.std.specs.Prelude.{set, ◌≡◌}
+use Rattle.std.specs.Prelude.{set}
 use Rattle.requests.specs.Request.{Outcome, refuse, accept}
 use Rattle.entries.specs.declared.Phase.{Phase}
 
@@ -54,9 +54,3 @@ unfoldable pub stored : List ℕ → ℕ → ℕ → Outcome (List ℕ)
 stored list i v =
     when not (leb i 63 and leb v 31) then refuse 19 list else
     accept (set list i v)
-
--- the list l, the answer n and the figure spent are those of an outcome
-pub record Comes (l : List ℕ) (n spent : ℕ) (o : Outcome (List ℕ)) : Type 0 where
-  pub list : l ≡ o.state
-  pub answer : n ≡ o.answer
-  pub spends : spent ≡ o.spent

@@ -1,23 +1,22 @@
 -- Laws of a reader that goes on through a block, and of how large what it reads may grow. Assumes nothing.
 use Prim.Native.Nat.{ℕ, ◌+◌, ◌-◌, ◌*◌, ◌^◌, ◌<◌, ◌≤◌}
-use mathlib.Core.Path.{◌≡◌, refl, sym, ap, ◌∙◌}
+use mathlib.Core.Path.{◌≡◌, refl, ap, ◌∙◌}
 use mathlib.Core.Bool.{true, false}
 use mathlib.Core.List.{List, [], ◌∷◌}
 use native.Mathlib.Omega.{arith}
 use native.Mathlib.Nat.{pow-suc, pow-le-pow_right, mul-le-mul_right, lt_of_lt_of_le}
 use native.Mathlib.Numerals.{add-one}
 use lib.Dec.{eqb}
-use lib.ListN.{length, get_or, drop}
+use lib.ListN.{length, get_or, drop, drop_of_length-le}
 use lib.Seq.{drop-cons}
 use borrow.Author.Tests.{eq-eqb, ne_eqb}
 use Rattle.bits.proofs.Truth.{if_true, if_false}
-use Rattle.reader.specs.Line.{digit}
-use Rattle.reader.specs.Reader.{letter, word_of, begun, pushed, step_of}
+use Rattle.reader.specs.Reader.{word_of, begun, pushed, step_of}
 use Rattle.reader.specs.declared.Word.{Word}
 use Rattle.reader.specs.declared.Fields.{Fields}
 use Rattle.reader.specs.declared.Reader.{Reader}
 use Rattle.reader.specs.declared.Reader.TheVariants.{Letters, Tab, Digits}
-use Rattle.reader.proofs.Stepping.{letter_least, digit_least, word_tab, digits_tab, letter_step, field_step, digit_step}
+use Rattle.reader.proofs.Stepping.{letter_between, digit_between, word_tab, digits_tab, letter_step, field_step, digit_step}
 use Rattle.lines.specs.Blocks.{fed, GoesOn, DigitsGoOn}
 
 -- ---- a number of k digits at most
@@ -49,6 +48,10 @@ module _ (s : Reader) where
 
 -- ---- a byte of a block
 
+-- no byte is left
+pub none_left : (l : List ℕ) (at : ℕ) (s : Reader) → length l ≤ at → fed s (drop at l) at ≡ record { whole = false; reader = s; next = at }
+none_left l at s h = rw (drop_of_length-le l h) (fed_none s at)
+
 -- readers that are the same
 pub same_on : (l : List ℕ) (at : ℕ) {s t : Reader} → s ≡ t → GoesOn l s at t at
 same_on l at e = ap (λ (s : Reader). fed s (drop at l) at) e
@@ -64,26 +67,19 @@ module _ (l : List ℕ) (at : ℕ) (b : ℕ) (inside : at < length l) (here : ge
   line_on s e = rw (drop-cons l at 0 inside, here) (fed_line s b _ at (eq-eqb b 10 e))
 
   -- a letter of the word
-  pub letter_on : (x : ℕ) → letter b ≡ true → x * 256 + b < 2 ^ 64 → GoesOn l (Letters x) at (Letters (x * 256 + b)) (at + 1)
-  letter_on x h fits =
-      let low = letter_least b h in
-      byte_on (Letters x) (λ e. omega arith) ∙ same_on l (at + 1) (letter_step x b h fits)
+  pub letter_on : (x : ℕ) → 97 ≤ b → b ≤ 122 → x * 256 + b < 2 ^ 64 → GoesOn l (Letters x) at (Letters (x * 256 + b)) (at + 1)
+  letter_on x least most fits =
+      byte_on (Letters x) (λ e. omega arith) ∙ same_on l (at + 1) (letter_step x b (letter_between b least most) fits)
 
   -- the first digit of a field
-  pub field_on : (w : Word) (fs : Fields) → digit b ≡ true → GoesOn l (Tab w fs) at (Digits w fs (b - 48)) (at + 1)
-  field_on w fs h =
-      let low = digit_least b h in
-      byte_on (Tab w fs) (λ e. omega arith) ∙ same_on l (at + 1) (field_step w fs b h)
+  pub field_on : (w : Word) (fs : Fields) → 48 ≤ b → b ≤ 57 → GoesOn l (Tab w fs) at (Digits w fs (b - 48)) (at + 1)
+  field_on w fs least most =
+      byte_on (Tab w fs) (λ e. omega arith) ∙ same_on l (at + 1) (field_step w fs b (digit_between b least most))
 
   -- another
-  pub digit_on : (v : ℕ) → 1 ≤ v → digit b ≡ true → v * 10 + (b - 48) < 2 ^ 64 → DigitsGoOn l v at (v * 10 + (b - 48)) (at + 1)
-  digit_on v least h fits w fs =
-      let low = digit_least b h in
-      byte_on (Digits w fs v) (λ e. omega arith) ∙ same_on l (at + 1) (digit_step w fs b v least h fits)
-
-  -- all of them: the first is worth d - 48, and the others go on from there
-  pub number_on : (d v next : ℕ) → digit b ≡ true → d ≡ b → DigitsGoOn l (d - 48) (at + 1) v next → (w : Word) (fs : Fields) → GoesOn l (Tab w fs) at (Digits w fs v) next
-  number_on d v next h e more w fs = field_on w fs h ∙ ap (λ (n : ℕ). fed (Digits w fs (n - 48)) (drop (at + 1) l) (at + 1)) (sym e) ∙ more w fs
+  pub digit_on : (v : ℕ) → 1 ≤ v → 48 ≤ b → b ≤ 57 → v * 10 + (b - 48) < 2 ^ 64 → DigitsGoOn l v at (v * 10 + (b - 48)) (at + 1)
+  digit_on v some least most fits w fs =
+      byte_on (Digits w fs v) (λ e. omega arith) ∙ same_on l (at + 1) (digit_step w fs b v some (digit_between b least most) fits)
 
 -- ---- a tab
 
@@ -95,3 +91,6 @@ module _ (l : List ℕ) (at : ℕ) (inside : at < length l) (here : get_or l at 
   -- behind a field
   pub field_over : (w : Word) (fs : Fields) (v : ℕ) → GoesOn l (Digits w fs v) at (pushed w fs v) (at + 1)
   field_over w fs v = byte_on l at 9 inside here (Digits w fs v) (λ e. omega arith) ∙ same_on l (at + 1) (digits_tab w fs v)
+
+-- what a proof of the code needs
+pub ruleset going = (none_left, byte_on, line_on, letter_on, field_on, digit_on, word_over, field_over, grown, below)

@@ -1,14 +1,14 @@
 // Reads lines from blocks of input in one pass: a usual line at once, and any other from where that left off, a byte at a time.
-#![tactic(auto)]
+#![tactic(auto, using(crate::proofs::Going::going), unfolding(reader::specs::Reader::begun))]
 
 ghost use Rattle.std.specs.Prelude.{◌≡◌, ◌+◌, ◌≤◌, drop, length};
 ghost use Rattle.lines.specs.Blocks.{fed, GoesOn, DigitsGoOn};
 
-use reader::{Fields, Reader, Spelled, Word};
+use reader::{Fields, Reader, Word};
 
 // What a block of input gave: whether the line is whole, where the reader stands at its newline or at the block's end, and
 // the place behind that.
-#[derive(Clone, Copy)]
+#[derive(Clone, Copy, PartialEq, Eq, Debug)]
 pub struct Fed {
     pub whole: bool,
     pub reader: Reader,
@@ -19,24 +19,22 @@ pub struct Fed {
 fn read_on(r: Reader, block: &[u8], at: usize) -> Fed
     ensures { result ≡ fed r (drop at block.now) at }
 {
-    let mut s = r;
-    let mut i = at;
-    while i < block.len() {
+    let mut reader = r;
+    for i in at..block.len() {
         let b = block[i];
-        if b == 10 {
+        if b == b'\n' {
             return Fed {
                 whole: true,
-                reader: s,
+                reader,
                 next: i + 1,
             };
         }
-        s = s.step(b);
-        i += 1;
+        reader = reader.step(b);
     }
     Fed {
         whole: false,
-        reader: s,
-        next: i,
+        reader,
+        next: at.max(block.len()),
     }
 }
 
@@ -67,16 +65,16 @@ fn letters(block: &[u8], at: usize) -> Taken
     ensures goes { GoesOn block.now (Reader.Letters 0) at (Reader.Letters result.value) result.next }
     ensures short { result.next ≤ at + 8 }
 {
-    let mut x = 0;
+    let mut value = 0;
     for i in at..at + 8 {
         let b = block[i];
-        if !reader::is_letter(b) {
-            return Taken { value: x, next: i };
+        if !b.is_ascii_lowercase() {
+            return Taken { value, next: i };
         }
-        x = x * 256 + reader::wide(b);
+        value = value * 256 + u64::from(b);
     }
     Taken {
-        value: x,
+        value,
         next: at + 8,
     }
 }
@@ -90,53 +88,43 @@ fn digits(block: &[u8], at: usize, first: u64) -> Taken
     if first == 0 {
         return Taken { value: 0, next: at };
     }
-    let mut v = first;
+    let mut value = first;
     for i in at..at + 18 {
         let b = block[i];
-        if !reader::is_digit(b) {
-            return Taken { value: v, next: i };
+        if !b.is_ascii_digit() {
+            return Taken { value, next: i };
         }
-        v = v * 10 + (reader::wide(b) - 48);
+        value = value * 10 + u64::from(b - b'0');
     }
     Taken {
-        value: v,
+        value,
         next: at + 18,
     }
 }
 
 // A number behind a tab and the tab behind it. A reader that stands elsewhere stays there.
-fn field(s: Reader, block: &[u8], at: usize) -> Reached
+fn field(reader: Reader, block: &[u8], at: usize) -> Reached
     requires { at + 20 ≤ length block.now }
-    ensures goes { GoesOn block.now s at result.reader result.next }
+    ensures goes { GoesOn block.now reader at result.reader result.next }
     ensures short { result.next ≤ at + 20 }
 {
-    match s {
-        Reader::Tab(w, fs) => {
-            let b = block[at];
-            if !reader::is_digit(b) {
-                return Reached {
-                    reader: s,
-                    next: at,
-                };
-            }
-            let n = digits(block, at + 1, reader::wide(b) - 48);
-            let v = n.value;
-            let j = n.next;
-            if block[j] != 9 {
-                return Reached {
-                    reader: Reader::Digits(w, fs, v),
-                    next: j,
-                };
-            }
-            Reached {
-                reader: reader::pushed_on(w, fs, v),
-                next: j + 1,
-            }
-        }
-        _ => Reached {
-            reader: s,
-            next: at,
-        },
+    let Reader::Tab(w, fs) = reader else {
+        return Reached { reader, next: at };
+    };
+    let b = block[at];
+    if !b.is_ascii_digit() {
+        return Reached { reader, next: at };
+    }
+    let Taken { value, next: end } = digits(block, at + 1, u64::from(b - b'0'));
+    if block[end] != b'\t' {
+        return Reached {
+            reader: Reader::Digits(w, fs, value),
+            next: end,
+        };
+    }
+    Reached {
+        reader: reader::pushed_on(w, fs, value),
+        next: end + 1,
     }
 }
 
@@ -146,12 +134,8 @@ fn numbers(w: Word, block: &[u8], at: usize) -> Reached
     ensures { GoesOn block.now (Reader.Tab w Fields.Without) at result.reader result.next }
 {
     let first = field(Reader::Tab(w, Fields::Without), block, at);
-    let s = first.reader;
-    let i = first.next;
-    let second = field(s, block, i);
-    let t = second.reader;
-    let j = second.next;
-    field(t, block, j)
+    let second = field(first.reader, block, first.next);
+    field(second.reader, block, second.next)
 }
 
 // A usual line from its first byte on.
@@ -159,20 +143,18 @@ fn usual(block: &[u8], at: usize) -> Reached
     requires { at + 69 ≤ length block.now }
     ensures { GoesOn block.now (Reader.Letters 0) at result.reader result.next }
 {
-    let t = letters(block, at);
-    let x = t.value;
-    let i = t.next;
-    if block[i] != 9 {
+    let Taken { value, next } = letters(block, at);
+    if block[next] != b'\t' {
         return Reached {
-            reader: Reader::Letters(x),
-            next: i,
+            reader: Reader::Letters(value),
+            next,
         };
     }
-    match reader::word_of(x) {
-        Spelled::As(w) => numbers(w, block, i + 1),
-        Spelled::Nothing => Reached {
+    match reader::word_of(value) {
+        Some(w) => numbers(w, block, next + 1),
+        None => Reached {
             reader: Reader::Broken,
-            next: i + 1,
+            next: next + 1,
         },
     }
 }
@@ -181,15 +163,9 @@ fn usual(block: &[u8], at: usize) -> Reached
 pub fn feed(r: Reader, block: &[u8], at: usize) -> Fed
     ensures { result ≡ fed r (drop at block.now) at }
 {
-    if r.is_fresh() {
-        if ROOM <= block.len() {
-            if at <= block.len() - ROOM {
-                let q = usual(block, at);
-                let s = q.reader;
-                let i = q.next;
-                return read_on(s, block, i);
-            }
-        }
+    if r.is_fresh() && ROOM <= block.len().saturating_sub(at) {
+        let Reached { reader, next } = usual(block, at);
+        return read_on(reader, block, next);
     }
     read_on(r, block, at)
 }

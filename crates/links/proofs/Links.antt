@@ -3,6 +3,7 @@ use Prim.Native.Nat.{ℕ, ◌+◌, ◌≤◌, ◌<◌, suc-le-suc}
 use mathlib.Core.Path.{◌≡◌, sym, ap, ◌∙◌}
 use mathlib.Core.Bool.{Bool, true, false, not}
 use mathlib.Core.List.{List}
+use mathlib.Core.Logic.{◌⊎◌, ⊎_elim}
 use native.Mathlib.Nat.{zero-add, le_of_suc-le-suc}
 use lib.Dec.{eqb, ltb}
 use lib.ListN.{length, get_or}
@@ -72,13 +73,11 @@ module _ (t : List ℕ) (r q : ℕ) where
   unfolding on_table
   off_table b n = false_and _ (not_table t n)
 
-  pub off_senior : (b : Bool) → 64 ≤ r → on_table t r q b ≡ false
+  pub no_role : (b : Bool) → (63 < r) ⊎ ((r ≤ 63) × (63 < q)) → on_table t r q b ≡ false
   unfolding on_table
-  off_senior b h = and_false (is_table t) (false_and _ (le-ltb r 64 h))
-
-  pub off_junior : (b : Bool) → 64 ≤ q → on_table t r q b ≡ false
-  unfolding on_table
-  off_junior b h = and_false (is_table t) (and_false (ltb r 64) (false_and _ (le-ltb q 64 h)))
+  no_role b h =
+      and_false (is_table t)
+      (⊎_elim (λ p. false_and _ (le-ltb r 64 p)) (λ p. and_false (ltb r 64) (false_and _ (le-ltb q 64 p.1))) h)
 
 -- what the two functions answer and leave, where there are such roles
 module _ (t : List ℕ) (e : length t ≡ table_length) (r q : ℕ) (hr : r < 64) (hq : q < 64) {b : Bool} where

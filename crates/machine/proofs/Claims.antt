@@ -9,7 +9,7 @@ use Rattle.bits.specs.Words.{◌and◌, ◌implies◌, when◌then◌else◌, ha
 use Rattle.bits.proofs.Truth.{clash, by_truth, is_false}
 use Rattle.bits.proofs.Below.{all_elim}
 use Rattle.bits.proofs.Word.{has_past}
-use Rattle.bits.proofs.Members.{subset_intro, subset_elim}
+use Rattle.bits.proofs.Membership.{subset_intro, subset_elim}
 use Rattle.machine.specs.declared.Standing.{Standing}
 use Rattle.machine.specs.declared.Standing.TheVariants.{Equal, Above, Below, Apart}
 use Rattle.machine.specs.Label.{class, brands, stands, equal_or_above}
@@ -45,10 +45,7 @@ module _ (a b : ℕ) where
   told : (w : Standing) → Means w a b → stands a b ≡ w
   told Equal e = stands_equal a b e
   told Above m = stands_above a b m.1 (sym (dominates_is a b) ∙ dominated a b m.0)
-  told Below m =
-      stands_below a b (λ e. m.1 (sym e))
-      (not_over a b (λ d. m.1 (dominates_antisym b a (dominated b a m.0) (dominated a b d))))
-      (sym (dominates_is b a) ∙ dominated b a m.0)
+  told Below m = stands_below a b (λ e. m.1 (sym e)) (sym (dominates_is b a) ∙ dominated b a m.0)
   told Apart m =
       stands_apart a b (λ e. m.0 (subst (Dominates a) e (dominating a a (dominates_refl a)))) (not_over a b m.0) (not_over b a m.1)
 
@@ -60,7 +57,7 @@ module _ (a b : ℕ) where
       by_truth (over a b)
       (λ h. so (stands_above a b d h) (dominating a b (dominates_is a b ∙ h), d))
       (λ h. by_truth (over b a)
-      (λ k. so (stands_below a b d h k) (dominating b a (dominates_is b a ∙ k), λ e. d (sym e)))
+      (λ k. so (stands_below a b d k) (dominating b a (dominates_is b a ∙ k), λ e. d (sym e)))
       (λ k. so (stands_apart a b d h k) (over_not a b h, over_not b a k))))
     where
       so : {w : Standing} → stands a b ≡ w → Means w a b → Means (stands a b) a b

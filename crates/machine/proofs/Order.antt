@@ -6,9 +6,9 @@ use native.Mathlib.Omega.{arith}
 use lib.Dec.{eqb, leb}
 use borrow.Author.Tests.{le-leb, lt-leb, leb-true, eq-eqb, ne_eqb, eqb-true, eqb-false}
 use Rattle.bits.specs.Words.{◌and◌, subset}
-use Rattle.bits.proofs.Truth.{clash, by_truth, if_true, if_false, and_intro, and_left, and_right, true_and, false_and, same_truth}
+use Rattle.bits.proofs.Truth.{clash, by_truth, is_false, if_true, if_false, and_intro, and_left, and_right, true_and, false_and, same_truth}
 use Rattle.bits.proofs.Word.{has_zero, same_members}
-use Rattle.bits.proofs.Members.{subset_intro, subset_elim}
+use Rattle.bits.proofs.Membership.{subset_intro, subset_elim}
 use Rattle.machine.specs.declared.Standing.TheVariants.{Equal, Above, Below, Apart}
 use Rattle.machine.specs.Label.{class, brands, stands, equal_or_above}
 
@@ -19,6 +19,19 @@ over a b = leb (class b) (class a) and subset (brands b) (brands a)
 -- a dominates b
 abbrev pub dominates : ℕ → ℕ → Bool
 dominates a b = equal_or_above (stands a b)
+
+-- each over the other: their classes are the same, and their sets
+over_antisym : (a b : ℕ) → over a b ≡ true → over b a ≡ true → a ≡ b
+unfolding class brands
+over_antisym a b h k =
+    let p = leb-true (class b) (class a) (and_left _ _ h) in
+    let q = leb-true (class a) (class b) (and_left _ _ k) in
+    let mine = and_right (leb (class b) (class a)) _ h in
+    let theirs = and_right (leb (class a) (class b)) _ k in
+    let e : a % 8 ≡ b % 8 =
+    same_members (a % 8) (b % 8) (omega arith) (omega arith)
+    (λ i l. same_truth (subset_elim _ _ theirs i l) (subset_elim _ _ mine i l)) in
+    omega arith
 
 -- ---- how two stand
 
@@ -32,9 +45,9 @@ module _ (a b : ℕ) where
     unfolding stands
     stands_above h = if_false _ _ (ne_eqb a b d) ∙ if_true _ _ h
 
-    pub stands_below : over a b ≡ false → over b a ≡ true → stands a b ≡ Below
+    pub stands_below : over b a ≡ true → stands a b ≡ Below
     unfolding stands
-    stands_below h k = if_false _ _ (ne_eqb a b d) ∙ if_false _ _ h ∙ if_true _ _ k
+    stands_below k = if_false _ _ (ne_eqb a b d) ∙ if_false _ _ (is_false (λ h. d (over_antisym a b h k))) ∙ if_true _ _ k
 
     pub stands_apart : over a b ≡ false → over b a ≡ false → stands a b ≡ Apart
     unfolding stands
@@ -53,7 +66,7 @@ dominates_is a b =
     by_truth (over a b)
     (λ h. ap equal_or_above (stands_above a b d h) ∙ sym h)
     (λ h. by_truth (over b a)
-    (λ k. ap equal_or_above (stands_below a b d h k) ∙ sym h)
+    (λ k. ap equal_or_above (stands_below a b d k) ∙ sym h)
     (λ k. ap equal_or_above (stands_apart a b d h k) ∙ sym h)))
 
 -- ---- dominance
@@ -79,14 +92,7 @@ dominates_trans a b c h k =
     (subset_intro (brands c) (brands a) (λ i l m. subset_elim _ _ (set_holds a b h) i l (subset_elim _ _ (set_holds b c k) i l m)))
 
 pub dominates_antisym : (a b : ℕ) → dominates a b ≡ true → dominates b a ≡ true → a ≡ b
-unfolding class brands
-dominates_antisym a b h k =
-    let p = class_least a b h in
-    let q = class_least b a k in
-    let e : a % 8 ≡ b % 8 =
-    same_members (a % 8) (b % 8) (omega arith) (omega arith)
-    (λ i l. same_truth (λ m. subset_elim _ _ (set_holds b a k) i l m) (λ m. subset_elim _ _ (set_holds a b h) i l m)) in
-    omega arith
+dominates_antisym a b h k = over_antisym a b (sym (dominates_is a b) ∙ h) (sym (dominates_is b a) ∙ k)
 
 pub dominates_bottom : (a : ℕ) → dominates a 0 ≡ true
 unfolding class brands
@@ -105,14 +111,3 @@ module _ (a b : ℕ) {high low : ℕ} (p : high ≡ class a) (q : low ≡ class 
       true_and _ (le-leb (class b) (class a) (subst (λ (n : ℕ). class b ≤ n) p (subst (λ (n : ℕ). n ≤ high) q h)))
       ∙ sym (ap₂ subset s t)
       ∙ sym e
-
--- a label that does not dominate another is below it or apart
-module _ (a b : ℕ) (h : dominates a b ≡ false) where
-  differ : a ≡ b → ⊥
-  differ e = clash (ap (dominates a) (sym e) ∙ dominates_refl a) h
-
-  pub found_below : over b a ≡ true → stands a b ≡ Below
-  found_below k = stands_below a b differ (sym (dominates_is a b) ∙ h) k
-
-  pub found_apart : over b a ≡ false → stands a b ≡ Apart
-  found_apart k = stands_apart a b differ (sym (dominates_is a b) ∙ h) k

@@ -1,17 +1,17 @@
 // Labels by value, and how two of them stand.
 #![tactic(auto)]
 
-ghost use Rattle.std.specs.Prelude.{◌≡◌, false};
+ghost use Rattle.std.specs.Prelude.{◌≡◌};
 ghost use Rattle.machine.specs.Label.{class, brands, stands, equal_or_above};
 ghost use Rattle.machine.specs.Number.{standing_number};
 
 // How one label stands to another.
-#[derive(Clone, Copy)]
+#[derive(Clone, Copy, PartialEq, Eq, Debug)]
 pub enum Standing {
-    Equal,
-    Above,
-    Below,
-    Apart,
+    Equal = 0,
+    Above = 1,
+    Below = 2,
+    Apart = 3,
 }
 
 impl Standing {
@@ -19,29 +19,19 @@ impl Standing {
     pub fn equal_or_above(self) -> bool
         ensures { result ≡ equal_or_above self }
     {
-        match self {
-            Standing::Equal => true,
-            Standing::Above => true,
-            Standing::Below => false,
-            Standing::Apart => false,
-        }
+        matches!(self, Standing::Equal | Standing::Above)
     }
 
     // Its number for callers: 0 to 3, in the order above.
     pub fn number(self) -> u64
         ensures { result ≡ standing_number self }
     {
-        match self {
-            Standing::Equal => 0,
-            Standing::Above => 1,
-            Standing::Below => 2,
-            Standing::Apart => 3,
-        }
+        self as u64
     }
 }
 
 // A label: a class and a set of brands in one number, 0 to 31.
-#[derive(Clone, Copy)]
+#[derive(Clone, Copy, PartialEq, Eq, Debug)]
 pub struct Label {
     pub number: u64,
 }
@@ -61,33 +51,18 @@ impl Label {
         self.number % 8
     }
 
-    // How it stands to another that it does not dominate.
-    fn below_or_apart(self, other: Label) -> Standing
-        requires { equal_or_above (stands self.number other.number) ≡ false }
-        ensures { result ≡ stands self.number other.number }
-    {
-        if other.class() < self.class() {
-            return Standing::Apart;
-        }
-        if bits::subset(self.set(), other.set()) {
-            return Standing::Below;
-        }
-        Standing::Apart
-    }
-
     // How it stands to another.
     pub fn compare(self, other: Label) -> Standing
         ensures { result ≡ stands self.number other.number }
     {
-        if self.number == other.number {
-            return Standing::Equal;
+        if self == other {
+            Standing::Equal
+        } else if other.class() <= self.class() && bits::subset(other.set(), self.set()) {
+            Standing::Above
+        } else if self.class() <= other.class() && bits::subset(self.set(), other.set()) {
+            Standing::Below
+        } else {
+            Standing::Apart
         }
-        if self.class() < other.class() {
-            return self.below_or_apart(other);
-        }
-        if bits::subset(other.set(), self.set()) {
-            return Standing::Above;
-        }
-        self.below_or_apart(other)
     }
 }

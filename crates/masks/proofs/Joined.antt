@@ -9,7 +9,7 @@ use Rattle.bits.specs.Words.{◌and◌, has, pack}
 use Rattle.bits.specs.Sets.{some, overlap, IsLowest, IsRest}
 use Rattle.bits.proofs.Truth.{same_truth, and_intro, and_left, and_right, if_true}
 use Rattle.bits.proofs.Word.{has_pack, pack_cong}
-use Rattle.bits.proofs.Members.{some_intro, some_elim, some_cong, overlap_intro, overlap_elim}
+use Rattle.bits.proofs.Membership.{some_intro, some_elim, some_cong, overlap_intro, overlap_elim}
 use Rattle.bits.proofs.Walk.{Joining, join_start, join_step, join_end}
 use Rattle.bits.proofs.Tabulate.{length_tabulate, get_d_tabulate, tabulated}
 use Rattle.table.specs.State.{State}

@@ -1,20 +1,22 @@
 -- The masks of the sessions, one after another, as a loop writes them. Assumes nothing.
-use Prim.Native.Nat.{ℕ, ◌+◌, ◌*◌, ◌/◌, ◌%◌, ◌≤◌, ◌<◌}
-use mathlib.Core.Path.{◌≡◌, sym, ap, ap₂, subst, ◌∙◌}
+use Prim.Native.Nat.{ℕ, ◌+◌, ◌-◌, ◌*◌, ◌/◌, ◌%◌, ◌<◌}
+use mathlib.Core.Path.{◌≡◌, sym, ap, ap₂, ◌∙◌}
 use mathlib.Core.Bool.{true, false}
 use mathlib.Core.List.{List}
 use native.Mathlib.Omega.{arith}
 use lib.Dec.{ltb}
-use lib.ListN.{length, get_or, set, replicate}
+use lib.ListN.{length, get_or, replicate}
+use borrow.Rule.Slice.PartMut.{put_mid}
 use borrow.Author.Tests.{lt-ltb, le-ltb, ltb-true, ltb-false}
-use Rattle.bits.specs.Words.{when◌then◌else◌, tabulate}
+use Rattle.bits.specs.Words.{when◌then◌else◌}
 use Rattle.bits.proofs.Truth.{by_truth, if_true, if_false}
-use Rattle.bits.proofs.Tabulate.{length_tabulate, get_d_tabulate, tabulate_cong, Writing, write_start, write_step, write_end, zeros}
+use Rattle.bits.proofs.Tabulate.{length_tabulate, get_d_tabulate, tabulate_cong, zeros}
 use Rattle.table.specs.State.{State}
 use Rattle.table.specs.Masks.{mask_of}
 use Rattle.table.specs.Reading.{state}
 use Rattle.table.specs.Table.{is_table}
 use Rattle.table.proofs.Keeps.{no_roles_mask}
+use Rattle.table.proofs.Written.{written_is}
 use Rattle.masks.specs.Answers.{all_masks}
 use Rattle.masks.specs.Gathered.{masks_below}
 
@@ -52,38 +54,21 @@ module _ (S : State) where
       sym (if_true _ _ c ∙ no_roles_mask S (i / 8) (i % 8) (ap S.active same ∙ z)))
       (λ c. sym (if_false _ _ c))))
 
-  -- ---- a loop that writes the masks of session s: those of the modes below x are written
-
-  pub record WritingMasks (s : ℕ) (old out : List ℕ) (x : ℕ) : Type 0 where
-    pub within : x ≤ 8
-    pub so_far : Writing (λ i. mask_of S (i / 8) (i % 8)) (8 * s) old out (8 * s + x)
-
-  pub masks_write_start : {s : ℕ} {old : List ℕ} → WritingMasks s old old 0
-  masks_write_start = record { within = omega arith; so_far = subst (Writing _ _ _ _) (omega arith) write_start }
-
-  module _ {s : ℕ} {old : List ℕ} (hs : s < 32) (e : old ≡ masks_below S s) where
-    pub masks_write_step : {out : List ℕ} {x v : ℕ} → WritingMasks s old out x → x < 8 → v ≡ mask_of S s x → WritingMasks s old (set out (8 * s + x) v) (x + 1)
-    masks_write_step {out} {x} k h z =
-        let l = k.so_far.long in
-        let m = ap length e ∙ length_masks s in
-        record {
-          within = omega arith;
-          so_far = subst (Writing _ _ _ _) (omega arith) (write_step k.so_far (omega arith) (z ∙ ap₂ (mask_of S) (omega arith) (omega arith)));
-        }
-
-    pub masks_write_end : {out : List ℕ} {x : ℕ} → WritingMasks s old out x → 8 ≤ x → out ≡ masks_below S (s + 1)
-    unfolding masks_below
-    masks_write_end k h =
-        let m = ap length e ∙ length_masks s in
-        let w = k.within in
-        write_end (mask_below S (s + 1)) k.so_far
-        (λ j l. if_true _ _ (lt-ltb (j / 8) (s + 1) (omega arith)) ∙ sym (old_at j (omega arith) ∙ if_true _ _ (lt-ltb (j / 8) s (omega arith))))
-        (λ j l n. if_true _ _ (lt-ltb (j / 8) (s + 1) (omega arith)))
-        (λ j l n. if_false _ _ (le-ltb (j / 8) (s + 1) (omega arith)) ∙ sym (old_at j (omega arith) ∙ if_false _ _ (le-ltb (j / 8) s (omega arith))))
-        ∙ ap (λ (n : ℕ). tabulate n (mask_below S (s + 1))) m
-      where
-        old_at : (j : ℕ) → j < 256 → get_or old j 0 ≡ mask_below S s j
-        old_at j l = ap (λ (y : List ℕ). get_or y j 0) e ∙ masks_at_lem s j l
+  -- the masks of session s written behind those of the sessions before it
+  pub masks_write : {old : List ℕ} {k : ℕ} (words : List ℕ) (s : ℕ) → s < 32 → old ≡ masks_below S s → k ≡ 8 → length words ≡ 8
+      → ((x : ℕ) → x < 8 → get_or words x 0 ≡ mask_of S s x) → put_mid (8 * s) k old words ≡ masks_below S (s + 1)
+  masks_write {old} {k} words s h e n l w =
+      let m = ap length e ∙ length_masks s in
+      written_is old words (8 * s) k (omega arith) (omega arith) (length_masks (s + 1) ∙ sym m)
+      (λ i p q. masks_at_lem (s + 1) i (omega arith) ∙ if_true _ _ (lt-ltb (i / 8) (s + 1) (omega arith))
+      ∙ sym (old_at i (omega arith) ∙ if_true _ _ (lt-ltb (i / 8) s (omega arith))))
+      (λ i p q. masks_at_lem (s + 1) i (omega arith) ∙ if_true _ _ (lt-ltb (i / 8) (s + 1) (omega arith))
+      ∙ ap₂ (mask_of S) (omega arith) (omega arith) ∙ sym (w (i - 8 * s) (omega arith)))
+      (λ i p q. masks_at_lem (s + 1) i (omega arith) ∙ if_false _ _ (le-ltb (i / 8) (s + 1) (omega arith))
+      ∙ sym (old_at i (omega arith) ∙ if_false _ _ (le-ltb (i / 8) s (omega arith))))
+    where
+      old_at : (i : ℕ) → i < 256 → get_or old i 0 ≡ mask_below S s i
+      old_at i l = ap (λ (y : List ℕ). get_or y i 0) e ∙ masks_at_lem s i l
 
 -- ---- the answer
 

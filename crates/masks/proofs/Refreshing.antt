@@ -11,7 +11,7 @@ use Rattle.bits.specs.Words.{◌and◌, when◌then◌else◌, upd}
 use Rattle.bits.specs.Sets.{overlap}
 use Rattle.bits.proofs.Truth.{by_truth, same_truth, and_intro, and_left, and_right, true_and, false_and, if_true, if_false}
 use Rattle.bits.proofs.Word.{has_pack, pack_cong, pack_none}
-use Rattle.bits.proofs.Members.{overlap_intro, overlap_elim}
+use Rattle.bits.proofs.Membership.{overlap_intro, overlap_elim}
 use Rattle.bits.proofs.Tabulate.{get_d_tabulate}
 use Rattle.table.specs.State.{State}
 use Rattle.table.specs.Authority.{permission, effective}

@@ -2,10 +2,9 @@
 // those of each session's roles joined; of one session; and one pair of all.
 #![tactic(auto)]
 
-ghost use Rattle.std.specs.Prelude.{◌≡◌, ◌+◌, ◌<◌, length};
+ghost use Rattle.std.specs.Prelude.{◌≡◌, ◌+◌, ◌<◌};
 ghost use Rattle.table.specs.Masks;
 ghost use Rattle.table.specs.Reading.{state};
-ghost use Rattle.table.specs.Table.{table_length};
 ghost use Rattle.masks.specs.Answers.{all_masks, session_refreshed, pair_refreshed};
 ghost use Rattle.masks.specs.Gathered.{noted, giving_roles, gathered, with_row, joined_rows, masks_below, Ready};
 
@@ -13,38 +12,30 @@ use table::layout::{ACTIVE, GRANTED, MASKS, PERMITTED, WORDS};
 
 // Notes the object o at mode x of each of the roles.
 fn note(objects: &mut [u64; 512], roles: u64, x: usize, o: usize)
-    requires { (length objects.old ≡ 512) × (x < 8) }
+    requires { x < 8 }
     ensures { objects.new ≡ noted objects.old roles x o }
 {
-    let mut left = roles;
-    while left != 0 {
-        let role = bits::lowest(left);
-        left = bits::rest(left);
+    for role in bits::Members::of(roles) {
         objects[8 * role + x] = bits::with(objects[8 * role + x], o);
     }
 }
 
 // Notes the objects of mode x at the roles that are granted them.
-fn gather(t: &[u64], objects: &mut [u64; 512], x: usize)
-    requires { (length t.now ≡ table_length) × (x < 8) × (objects.old ≡ gathered (state t.now) x) }
+fn gather(t: &[u64; WORDS], objects: &mut [u64; 512], x: usize)
+    requires { (x < 8) × (objects.old ≡ gathered (state t.now) x) }
     ensures { objects.new ≡ gathered (state t.now) (x + 1) }
 {
-    let mut left = t[PERMITTED + x];
-    while left != 0 {
-        let o = bits::lowest(left);
-        left = bits::rest(left);
+    for o in bits::Members::of(t[PERMITTED + x]) {
         note(objects, t[GRANTED + 64 * x + o], x, o);
     }
 }
 
-// Joins the objects of role q to the words of the modes.
-fn join_row(words: &mut [u64; 8], objects: &[u64; 512], q: usize)
-    requires { (length words.old ≡ 8) × (q < 64) }
-    ensures { words.new ≡ with_row words.old objects.now q }
+// The words of the modes joined with the objects of role q.
+fn with_row(words: &[u64; 8], objects: &[u64; 512], q: usize) -> [u64; 8]
+    requires { q < 64 }
+    ensures { result ≡ with_row words.now objects.now q }
 {
-    for x in 0..8 {
-        words[x] = bits::join(words[x], objects[8 * q + x]);
-    }
+    std::array::from_fn(|x| bits::join(words[x], objects[8 * q + x]))
 }
 
 // The objects of the roles together, of each mode.
@@ -52,18 +43,15 @@ fn joined_rows(objects: &[u64; 512], roles: u64) -> [u64; 8]
     ensures { result ≡ joined_rows objects.now roles }
 {
     let mut words = [0; 8];
-    let mut left = roles;
-    while left != 0 {
-        let role = bits::lowest(left);
-        left = bits::rest(left);
-        join_row(&mut words, objects, role);
+    for role in bits::Members::of(roles) {
+        words = with_row(&words, objects, role);
     }
     words
 }
 
 // Writes the masks of session s.
-fn write_session(t: &[u64], objects: &[u64; 512], s: usize, masks: &mut [u64; 256])
-    requires { (length t.now ≡ table_length) × (s < 32) × Ready (state t.now) objects.now masks.old s }
+fn write_session(t: &[u64; WORDS], objects: &[u64; 512], s: usize, masks: &mut [u64; 256])
+    requires { (s < 32) × Ready (state t.now) objects.now masks.old s }
     ensures { masks.new ≡ masks_below (state t.now) (s + 1) }
 {
     let active = t[ACTIVE + s];
@@ -71,9 +59,7 @@ fn write_session(t: &[u64], objects: &[u64; 512], s: usize, masks: &mut [u64; 25
         return;
     }
     let words = joined_rows(objects, table::covered_roles(t, active));
-    for x in 0..8 {
-        masks[8 * s + x] = words[x];
-    }
+    masks[8 * s..8 * s + 8].copy_from_slice(&words);
 }
 
 // The masks of all sessions, in the order of the table; none where this is no table.
@@ -81,15 +67,15 @@ pub fn all_masks(t: &[u64]) -> [u64; 256]
     ensures { result ≡ all_masks t.now }
 {
     let mut masks = [0; 256];
-    if t.len() != WORDS {
+    let Some(table) = t.as_array::<WORDS>() else {
         return masks;
-    }
+    };
     let mut objects = [0; 512];
     for x in 0..8 {
-        gather(t, &mut objects, x);
+        gather(table, &mut objects, x);
     }
     for s in 0..32 {
-        write_session(t, &objects, s, &mut masks);
+        write_session(table, &objects, s, &mut masks);
     }
     masks
 }
@@ -98,10 +84,7 @@ pub fn all_masks(t: &[u64]) -> [u64; 256]
 pub fn refresh(t: &mut [u64], s: usize)
     ensures { t.new ≡ session_refreshed t.old s }
 {
-    if t.len() != WORDS {
-        return;
-    }
-    if 31 < s {
+    if t.len() != WORDS || 31 < s {
         return;
     }
     let masks = table::effective_permissions(t, s);
@@ -113,38 +96,37 @@ fn put(w: u64, i: usize, b: bool) -> u64
     ensures { result ≡ Masks.put w i b }
 {
     if b {
-        return bits::with(w, i);
+        bits::with(w, i)
+    } else {
+        bits::without(w, i)
     }
-    bits::without(w, i)
 }
 
 // The roles that give the pair (x, o): those that are granted it, and their seniors.
-fn giving(t: &[u64], x: usize, o: usize) -> u64
-    requires { (length t.now ≡ table_length) × (x < 8) × (o < 64) }
+fn giving(t: &[u64; WORDS], x: usize, o: usize) -> u64
+    requires { (x < 8) × (o < 64) }
     ensures { result ≡ giving_roles (state t.now) x o }
 {
-    if !bits::has(t[PERMITTED + x], o) {
-        return 0;
+    if bits::has(t[PERMITTED + x], o) {
+        table::senior_roles(t, t[GRANTED + 64 * x + o])
+    } else {
+        0
     }
-    table::senior_roles(t, t[GRANTED + 64 * x + o])
 }
 
 // The pair (x, o) is worked out anew in the masks of every session.
 pub fn refresh_pair(t: &mut [u64], x: usize, o: usize)
     ensures { t.new ≡ pair_refreshed t.old x o }
 {
-    if t.len() != WORDS {
+    if 7 < x || 63 < o {
         return;
     }
-    if 7 < x {
+    let Some(table) = t.as_mut_array::<WORDS>() else {
         return;
-    }
-    if 63 < o {
-        return;
-    }
-    let roles = giving(t, x, o);
+    };
+    let roles = giving(table, x, o);
     for s in 0..32 {
         let at = MASKS + 8 * s + x;
-        t[at] = put(t[at], o, bits::overlap(t[ACTIVE + s], roles));
+        table[at] = put(table[at], o, bits::overlap(table[ACTIVE + s], roles));
     }
 }

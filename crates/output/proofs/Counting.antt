@@ -1,8 +1,8 @@
 -- Digits counted up show the next number, also where they are counted up in place, and number a row. Assumes nothing.
 use Prim.Native.Nat.{ℕ, zero, suc, ◌+◌, ◌-◌, ◌/◌, ◌%◌, ◌^◌, ◌≤◌, ◌<◌}
 use mathlib.Core.Path.{◌≡◌, refl, sym, ap, ◌∙◌}
-use mathlib.Core.List.{List, [], ◌∷◌, ◌++◌, append-nil, reverse-cons, reverse-append, reverse-reverse}
-use native.Mathlib.Nat.{zero-add, sub_self, suc-ne-zero, pow-succ'}
+use mathlib.Core.List.{List, [], ◌∷◌, ◌++◌, reverse-cons, reverse-append, reverse-reverse}
+use native.Mathlib.Nat.{zero-add, suc-ne-zero, pow-succ'}
 use native.Mathlib.Numerals.{add-one, sub-one}
 use native.Mathlib.Omega.{arith}
 use lib.Dec.{ltb}
@@ -106,9 +106,6 @@ wrote_same l k h =
       result_is = sym (sets-eq (take k l) l 0 (omega arith) ∙ rw (zero-add, all) (take-append-drop k l));
       next_is = omega arith;
     }
-
-pub carried_start : (l : List ℕ) (k : ℕ) → Carried l k k l
-carried_start l k = record { within = omega arith; kept = refl; stored = rw (sub_self k); counted = rw (sub_self k) (sym (append-nil (next (take k l)))) }
 
 module _ {l d : List ℕ} {k : ℕ} where
   same_digit : {j : ℕ} → Carried l k (suc j) d → get_or d j 0 ≡ get_or l j 0

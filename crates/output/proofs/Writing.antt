@@ -1,14 +1,17 @@
 -- Laws of bytes stored one behind the other or one over the other, and of the length of a number's text. Assumes nothing.
 use Prim.Native.Nat.{ℕ, zero, suc, ◌+◌, ◌-◌, ◌/◌, ◌%◌, ◌≤◌, ◌<◌}
-use mathlib.Core.Path.{◌≡◌, refl, sym, ap, ◌∙◌}
-use mathlib.Core.List.{List, [], ◌∷◌, ◌++◌}
-use native.Mathlib.Nat.{add-zero, add_assoc, add-suc, suc-add, le_trans}
+use mathlib.Core.Path.{◌≡◌, refl, sym, ap, ap₂, ◌∙◌}
+use mathlib.Core.List.{List, [], ◌∷◌, ◌++◌, append_assoc}
+use native.Mathlib.Nat.{add-zero, add-suc, suc-add, le_trans}
 use native.Mathlib.Numerals.{add-one, sub-one}
 use native.Mathlib.Omega.{arith}
-use lib.ListN.{length, set, take, drop, get_or, length-append, length-take, length-drop}
-use lib.Seq.{sets, set-set, set_comm, get_or-drop, take-add, take-suc, length-take-le}
+use borrow.Rule.Slice.PartMut.{put_mid}
+use lib.Dec.{leb}
+use lib.ListN.{length, set, take, drop, length-append, length-take, length-drop, take-append-drop}
+use Rattle.std.proofs.lemmas.List.{take_all}
+use lib.Seq.{sets, sets-eq, set-set, set_comm, drop-drop, take-add, length-take-le}
 use borrow.Author.Tests.{leb-true, le-leb, lt-leb}
-use Rattle.bits.proofs.Truth.{and_intro, and_false, false_and, if_true, if_false, by_if}
+use Rattle.bits.proofs.Truth.{and_intro, and_left, and_right, if_true, if_false, by_if}
 use Rattle.output.specs.Text.{text, decimal, column, row_of, row, row_room, fitting, holding, numbered, Wrote}
 
 pub wrote_nothing : (l : List ℕ) (at : ℕ) → Wrote l at [] l at
@@ -31,12 +34,10 @@ wrote_more {l} {m} {r} {at} {i} {j} {vs} {ws} p q = record {
   next_is = let a = p.next_is in let b = q.next_is in rw (length-append vs ws) (omega arith);
 }
 
--- one byte more of a list
-pub wrote_next : {l m : List ℕ} {at : ℕ} (s : List ℕ) (from i : ℕ) → from + i < length s
-    → Wrote l at (take i (drop from s)) m (at + i) → Wrote l at (take (i + 1) (drop from s)) (set m (at + i) (get_or s (from + i) 0)) (at + (i + 1))
-wrote_next {l} {m} {at} s from i h w =
-    let inside : i < length (drop from s) = simp length-drop (omega arith) in
-    rw (← add_assoc at i 1, add-one i, take-suc (drop from s) i 0 inside) (wrote_more w (wrote_one m (at + i) _ _ (sym (get_or-drop from s i 0))))
+-- bytes copied into a part
+pub sets_part : (l : List ℕ) (at k : ℕ) (vs : List ℕ) → at + length vs ≤ length l → k ≡ length vs → put_mid at k l vs ≡ sets l at vs
+sets_part l at k vs h size =
+    rw (size, drop-drop (length vs) at l) (sym (append_assoc (take at l) vs (drop (at + length vs) l)) ∙ sym (sets-eq vs l at h))
 
 -- ---- bytes over bytes
 
@@ -54,23 +55,24 @@ sets_over l i (v ∷ vs) (w ∷ ws) h =
     ap (λ (m : List ℕ). sets m (suc i) ws) (set_sets (set l i v) (suc i) i w vs (omega arith) ∙ ap (λ (m : List ℕ). sets m (suc i) vs) (set-set l i v w))
     ∙ sets_over (set l i w) (suc i) vs ws (omega arith)
 
--- no fewer bytes over the last ones
-wrote_over : {l m r : List ℕ} {at i j : ℕ} (vs us ws : List ℕ) → length us ≤ length ws
-    → Wrote l at (vs ++ us) m i → Wrote m (at + length vs) ws r j → Wrote l at (vs ++ ws) r j
-wrote_over {l} {m} {r} {at} vs us ws h v w = record {
-  result_is = w.result_is ∙ rw (v.result_is, sets_append l at vs us, sets_over (sets l at vs) (at + length vs) us ws h) (sym (sets_append l at vs ws));
-  next_is = let a = w.next_is in rw (length-append vs ws) (omega arith);
-}
-
--- the first n bytes, and n bytes from the place j on
-pub wrote_both : {l m r : List ℕ} {at i k : ℕ} (s : List ℕ) (n j : ℕ) → j ≤ n → j + n ≤ length s
-    → Wrote l at (take n s) m i → Wrote m (at + j) (take n (drop j s)) r k → Wrote l at (take (j + n) s) r k
-wrote_both {l} {m} {r} {at} {i} {k} s n j h q v w =
-    let first : length (take j s) ≡ j = length-take-le j s (omega arith) in
-    let fewer : length (take (n - j) (drop j s)) ≤ length (take n (drop j s)) = simp (length-take, length-drop) (omega arith) in
+-- the first n bytes, and then m from the place j on, which are the rest
+pub sets_both : (l s : List ℕ) (at n j m : ℕ) → j ≤ n → n ≤ length s → length s ≤ j + m
+    → sets (sets l at (take n s)) (at + j) (take m (drop j s)) ≡ sets l at s
+sets_both l s at n j m h some more =
+    let head = take j s in
+    let again = take (n - j) (drop j s) in
+    let rest = drop j s in
+    let size : length head ≡ j = length-take-le j s (omega arith) in
+    let fewer : length again ≤ length rest = simp (length-take, length-drop) (omega arith) in
     let whole : n ≡ j + (n - j) = omega arith in
-    let split : take n s ≡ take j s ++ take (n - j) (drop j s) = ap (λ (a : ℕ). take a s) whole ∙ take-add j (n - j) s in
-    rw (take-add j n s) (wrote_over (take j s) (take (n - j) (drop j s)) (take n (drop j s)) fewer (rw split at v) (rw first w))
+    let split : take n s ≡ head ++ again = ap (λ (a : ℕ). take a s) whole ∙ take-add j (n - j) s in
+    let all : take m rest ≡ rest = take_all m rest (simp length-drop (omega arith)) in
+    ap₂ (λ (v w : List ℕ). sets (sets l at v) (at + j) w) split all
+    ∙ ap (λ (d : List ℕ). sets d (at + j) rest) (sets_append l at head again ∙ ap (λ (k : ℕ). sets (sets l at head) (at + k) again) size)
+    ∙ sets_over (sets l at head) (at + j) again rest fewer
+    ∙ ap (λ (k : ℕ). sets (sets l at head) (at + k) rest) (sym size)
+    ∙ sym (sets_append l at head rest)
+    ∙ ap (sets l at) (take-append-drop j s)
 
 -- ---- the text of a number
 
@@ -126,10 +128,6 @@ module _ (out : List ℕ) (at : ℕ) (bytes : List ℕ) where
   unfolding fitting
   wrote_fitting h w = rw (if_true bytes [] (le-leb _ _ h)) w
 
-  pub wrote_full : length out < at + row_room → Wrote out at (fitting out at bytes) out at
-  unfolding fitting
-  wrote_full h = rw (if_false bytes [] (lt-leb _ _ h)) (wrote_nothing out at)
-
   -- bytes where there is room for n
   pub wrote_holding : {result : List ℕ} {next : ℕ} (n : ℕ) → n ≤ length out
       → Wrote out at bytes result next → Wrote out at (holding out n bytes) result next
@@ -150,14 +148,6 @@ module _ (digits : List ℕ) (k answer spent : ℕ) where
   unfolding numbered
   numbered_there h i = if_true _ [] (and_intro (le-leb k 20 h) (le-leb k (length digits) i))
 
-  pub numbered_long : 20 < k → numbered digits k answer spent ≡ []
-  unfolding numbered
-  numbered_long h = if_false _ [] (false_and _ (lt-leb k 20 h))
-
-  pub numbered_short : length digits < k → numbered digits k answer spent ≡ []
-  unfolding numbered
-  numbered_short h = if_false _ [] (and_false _ (lt-leb k (length digits) h))
-
 -- a row where there is room for one
 pub wrote_row : (out : List ℕ) (at : ℕ) (bytes result : List ℕ) (next : ℕ) → at + row_room ≤ length out
     → Wrote out at (fitting out at bytes) result next → Wrote out at bytes result next
@@ -167,6 +157,17 @@ wrote_row out at bytes result next h w = rw (if_true bytes [] (le-leb (at + row_
 pub wrote_no_row : (out : List ℕ) (at : ℕ) → Wrote out at (fitting out at []) out at
 unfolding fitting
 wrote_no_row out at = by_if (λ (l : List ℕ). Wrote out at l out at) _ (λ e. wrote_nothing out at) (λ e. wrote_nothing out at)
+
+-- no row where there is no room for one, or not the digits to number it
+pub wrote_none : (out : List ℕ) (at : ℕ) (digits : List ℕ) (k answer spent : ℕ) → (at + row_room ≤ length out → k ≤ 20 → k ≤ length digits → ⊥)
+    → Wrote out at (fitting out at (numbered digits k answer spent)) out at
+unfolding fitting numbered
+wrote_none out at digits k answer spent h =
+    by_if (λ (l : List ℕ). Wrote out at l out at) _
+    (λ room. by_if (λ (l : List ℕ). Wrote out at l out at) _
+    (λ e. absurd (h (leb-true (at + row_room) (length out) room) (leb-true k 20 (and_left _ _ e)) (leb-true k (length digits) (and_right (leb k 20) _ e))))
+    (λ e. wrote_nothing out at))
+    (λ full. wrote_nothing out at)
 
 -- with room for a row or without, it ends within out
 pub wrote_within : (out : List ℕ) (at : ℕ) (bytes result : List ℕ) (next : ℕ) → at ≤ length out → length bytes ≤ row_room

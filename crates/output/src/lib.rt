@@ -1,7 +1,8 @@
 // The transcript's output as bytes: the header, and rows written into a lent buffer.
 #![tactic(auto)]
 
-ghost use Rattle.std.specs.Prelude.{◌≡◌, ◌+◌, ◌≤◌, length, take, drop};
+ghost use Rattle.std.specs.Prelude.{◌≡◌, ◌+◌, ◌≤◌, length, take};
+ghost use Rattle.std.proofs.lemmas.List.Edits.{sets};
 ghost use Rattle.output.specs.Text;
 ghost use Rattle.output.specs.Text.{Wrote, text, decimal, next, column, row_of, row, row_room, fitting, holding, numbered};
 
@@ -9,13 +10,11 @@ ghost use Rattle.output.specs.Text.{Wrote, text, decimal, next, column, row_of, 
 pub const ROW: usize = 63;
 
 // The first line of the output.
+#[tactic(auto, unfolding(crate::specs::Text::header))]
 pub fn header() -> [u8; 18]
     ensures { result ≡ Text.header }
 {
-    [
-        b'l', b'i', b'n', b'e', 9, b'a', b'n', b's', b'w', b'e', b'r', 9, b's', b'p', b'e', b'n',
-        b't', 10,
-    ]
+    *b"line\tanswer\tspent\n"
 }
 
 // A digit's byte.
@@ -23,7 +22,7 @@ fn digit(d: u64) -> u8
     requires { d ≤ 9 }
     ensures { result ≡ 48 + d }
 {
-    48 + d as u8
+    b'0' + d as u8
 }
 
 // Puts n's digits, k at most, at a place of out, and answers the place behind them.
@@ -44,6 +43,7 @@ fn put_text(out: &mut [u8], at: usize, k: usize, n: u64) -> usize
 }
 
 // Puts a number.
+#[tactic(auto, unfolding(crate::specs::Text::decimal))]
 fn put_decimal(out: &mut [u8], at: usize, n: u64) -> usize
     requires { at + 20 ≤ length out.old }
     ensures { Wrote out.old at (decimal n) out.new result }
@@ -66,40 +66,38 @@ fn put_column(out: &mut [u8], at: usize, n: u64, behind: u8) -> usize
     i + 1
 }
 
-// Puts n bytes, those of bytes from a place on.
-fn put_bytes(out: &mut [u8], at: usize, bytes: &[u8], from: usize, n: usize)
-    requires { (at + n ≤ length out.old) × (from + n ≤ length bytes.now) }
-    ensures { Wrote out.old at (take n (drop from bytes.now)) out.new (at + n) }
+// Puts bytes.
+fn put_bytes(out: &mut [u8], at: usize, bytes: &[u8])
+    requires { at + length bytes.now ≤ length out.old }
+    ensures { out.new ≡ sets out.old at bytes.now }
 {
-    for i in 0..n {
-        out[at + i] = bytes[from + i];
-    }
+    out[at..at + bytes.len()].copy_from_slice(bytes);
 }
 
-// Puts the first k bytes of digits. Where they are 4 to 8, as most often, two pieces of four that may overlap are quickest.
-fn put_digits(out: &mut [u8], at: usize, digits: &[u8], k: usize)
-    requires { (at + k ≤ length out.old) × (k ≤ length digits.now) }
-    ensures { Wrote out.old at (take k digits.now) out.new (at + k) }
+// Puts digits. Where they are 4 to 8, as most often, two pieces of four that may overlap are quickest.
+fn put_digits(out: &mut [u8], at: usize, digits: &[u8])
+    requires { at + length digits.now ≤ length out.old }
+    ensures { out.new ≡ sets out.old at digits.now }
 {
-    if 4 <= k {
-        if k <= 8 {
-            put_bytes(out, at, digits, 0, 4);
-            put_bytes(out, at + (k - 4), digits, k - 4, 4);
-            return;
-        }
+    let k = digits.len();
+    if 4 <= k && k <= 8 {
+        put_bytes(out, at, &digits[..4]);
+        put_bytes(out, at + (k - 4), &digits[k - 4..]);
+        return;
     }
-    put_bytes(out, at, digits, 0, k);
+    put_bytes(out, at, digits);
 }
 
 // Puts a row that there is room for.
-fn put_columns(out: &mut [u8], at: usize, digits: &[u8], k: usize, answer: u64, spent: u64) -> usize
-    requires { (at + row_room ≤ length out.old) × (k ≤ 20) × (k ≤ length digits.now) }
-    ensures { Wrote out.old at (row_of (take k digits.now) answer spent) out.new result }
+fn put_columns(out: &mut [u8], at: usize, digits: &[u8], answer: u64, spent: u64) -> usize
+    requires { (at + row_room ≤ length out.old) × (length digits.now ≤ 20) }
+    ensures { Wrote out.old at (row_of digits.now answer spent) out.new result }
 {
-    put_digits(out, at, digits, k);
-    out[at + k] = 9;
-    let i = put_column(out, at + k + 1, answer, 9);
-    put_column(out, i, spent, 10)
+    put_digits(out, at, digits);
+    let end = at + digits.len();
+    out[end] = b'\t';
+    let next = put_column(out, end + 1, answer, b'\t');
+    put_column(out, next, spent, b'\n')
 }
 
 // Puts a row at a place of out, numbered by the first k bytes of digits, and answers the place behind it; where out has not
@@ -114,19 +112,10 @@ pub fn put_numbered(
 ) -> usize
     ensures { Wrote out.old at (fitting out.old at (numbered digits.now k answer spent)) out.new result }
 {
-    if out.len() < ROW {
+    if out.len().saturating_sub(at) < ROW || 20 < k || digits.len() < k {
         return at;
     }
-    if out.len() - ROW < at {
-        return at;
-    }
-    if 20 < k {
-        return at;
-    }
-    if digits.len() < k {
-        return at;
-    }
-    put_columns(out, at, digits, k, answer, spent)
+    put_columns(out, at, &digits[..k], answer, spent)
 }
 
 // Puts n's digits at the start of digits and answers how many they are; where there is not the room for 20, digits is left
@@ -148,12 +137,9 @@ pub fn count_up(digits: &mut [u8], k: usize) -> usize
     if digits.len() <= k {
         return 0;
     }
-    let mut i = k;
-    while 0 < i {
-        i -= 1;
-        let b = digits[i];
-        if b < b'9' {
-            digits[i] = b + 1;
+    for i in (0..k).rev() {
+        if digits[i] < b'9' {
+            digits[i] += 1;
             return k;
         }
         digits[i] = b'0';

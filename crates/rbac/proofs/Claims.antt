@@ -12,7 +12,7 @@ use Rattle.bits.specs.Sets.{◌without◌}
 use Rattle.bits.proofs.Truth.{clash, by_truth, is_false, same_truth, not_intro, and_intro, and_left, and_right, false_or, true_and, false_and, and_true, and_false, and_comm, past, stopped}
 use Rattle.bits.proofs.Below.{all_intro, all_elim, any_intro, any_elim}
 use Rattle.bits.proofs.Word.{has_with, has_without, with_there, without_absent}
-use Rattle.bits.proofs.Members.{each_intro, each_elim}
+use Rattle.bits.proofs.Membership.{each_intro, each_elim}
 use Rattle.table.specs.State.{State}
 use Rattle.table.specs.Authority.{senior, permission, idle, authorised, effective}
 use Rattle.table.specs.Separation.{mask, sets_empty, separated}

@@ -1,23 +1,20 @@
 -- Codes and arguments: what a code from 1 to 14 decodes to, with arguments in range. Assumes nothing.
 use Prim.Native.Nat.{ℕ, zero, suc, ◌+◌, ◌≤◌, ◌<◌, suc-le-suc}
-use mathlib.Core.Path.{◌≡◌, refl, sym, subst, ◌∙◌}
-use mathlib.Core.Bool.{Bool, true, false}
+use mathlib.Core.Path.{◌≡◌, sym, subst, ◌∙◌}
+use mathlib.Core.Bool.{true, false}
 use mathlib.Core.List.{List}
 use native.Mathlib.Omega.{arith}
-use native.Mathlib.Nat.{le_antisymm}
 use lib.Arith.{lt_of_le-ne}
 use lib.Dec.{eqb}
 use lib.ListN.{get_or}
-use borrow.Author.Tests.{eqb-true, eqb-false, eq-eqb, ne_eqb, leb-true, le-leb, lt-ltb, le-ltb}
-use Rattle.bits.specs.Words.{◌and◌}
-use Rattle.bits.proofs.Truth.{by_truth, is_false, and_intro, and_left, and_right, true_and, false_and, or_left, or_right, false_or, if_true, if_false}
-use Rattle.table.specs.State.{State}
+use borrow.Author.Tests.{eqb-true, eqb-false, eq-eqb, ne_eqb, leb-true, le-leb}
+use Rattle.bits.proofs.Truth.{by_truth, is_false, and_intro, and_left, and_right, true_and, false_and, or_left, or_right, false_or}
 use Rattle.table.specs.Separation.{bad_pair, GoodPair}
 use Rattle.table.proofs.Separation.{good_elim}
 use Rattle.requests.specs.Request.{Ask, ask, within}
 use Rattle.requests.proofs.Arguments.{within_elim}
-use Rattle.rbac.specs.Roles.{Request, opens, closes, starts, ends, activates, drops, assigns, deassigns, grants, revokes, separates, links, unlinks, is_code, limits, in_range, carries_bad_pair, decode, known}
-use Rattle.rbac.specs.Served.{Ranged, Fit, Served, pair_known}
+use Rattle.rbac.specs.Roles.{Request, opens, closes, starts, ends, activates, drops, assigns, deassigns, grants, revokes, separates, links, unlinks, is_code, limits, in_range, carries_bad_pair, decode}
+use Rattle.rbac.specs.Served.{Ranged}
 
 -- ---- the code
 
@@ -32,10 +29,6 @@ unfolding NoneOf
 above k zero l none = omega arith
 above k (suc n) l none =
     let h : suc (k + n) < _ = lt_of_le-ne (above k n l none.0) (λ e. none.1 (sym e)) in omega arith
-
--- of one code more it is the last
-pub the_last : (k n : ℕ) {code : ℕ} → k < code → code ≤ suc (k + n) → NoneOf k n code → code ≡ suc (k + n)
-the_last k n l h none = le_antisymm h (above k n l none)
 
 -- of these codes there is none left
 pub none_left : (k n : ℕ) {code : ℕ} → NoneOf k n code → (k < code) × (code ≤ k + n) → ⊥
@@ -63,10 +56,6 @@ module _ (q : Ask) where
   pub code_above : 14 < q.code → is_code q ≡ false
   code_above l = is_false (λ e. let k = (is_code_elim e).1 in omega arith)
 
-  -- what `in_range` tells of a code that is one
-  pub range_told : {r : Bool} → r ≡ (is_code q and in_range q) → 1 ≤ q.code → q.code ≤ 14 → r ≡ in_range q
-  range_told e l h = e ∙ true_and _ (is_code_lem l h)
-
   -- only codes 11 and 12 carry a pair
   pub no_pair : q.code ≤ 10 → carries_bad_pair q ≡ false
   unfolding carries_bad_pair
@@ -80,11 +69,6 @@ module _ (q : Ask) where
   unfolding carries_bad_pair
   pair_carried l h =
       true_and _ (by_truth (eqb q.code 11) (or_left _) (λ e. let d = eqb-false q.code 11 e in or_right _ (eq-eqb q.code 12 (omega arith))))
-
--- the pair is all that is looked at
-pub pair_alone : (code a b c : ℕ) → carries_bad_pair (ask code a b c) ≡ carries_bad_pair (ask code 0 b c)
-unfolding carries_bad_pair
-pair_alone code a b c = refl
 
 -- ---- the arguments
 
@@ -126,112 +110,66 @@ ranged code a b c l h =
     good : (k : ℕ) → 11 ≤ k → k ≤ 12 → carries_bad_pair (ask k a b c) ≡ false → GoodPair b c
     good k l h g = good_elim b c (sym (pair_carried (ask k a b c) l h) ∙ g)
 
--- ---- the pair of a grant or revoke
-
--- the mode of a grant or revoke is there
-pub mode_there : (code a b c : ℕ) → 9 ≤ code → code ≤ 10 → Ranged (decode (ask code a b c)) → b < 8
-unfolding decode
-mode_there code a b c l h = next_code P 8 (λ r. r.1) (next_code P 9 (λ r. r.1) (λ m. absurd (omega arith))) l
-  where
-    P : ℕ → Type 0
-    P k = Ranged (decode (ask k a b c)) → b < 8
-
-pub known_pair : (S : State) (code a b c : ℕ) → 1 ≤ code → code ≤ 14 → known S (decode (ask code a b c)) ≡ pair_known S code b c
-unfolding known decode pair_known
-known_pair S code a b c l h =
-    next_code P 0 (below 1 refl (omega arith))
-    (next_code P 1 (below 2 refl (omega arith))
-    (next_code P 2 (below 3 refl (omega arith))
-    (next_code P 3 (below 4 refl (omega arith))
-    (next_code P 4 (below 5 refl (omega arith))
-    (next_code P 5 (below 6 refl (omega arith))
-    (next_code P 6 (below 7 refl (omega arith))
-    (next_code P 7 (below 8 refl (omega arith))
-    (next_code P 8 (sym (if_false _ _ refl ∙ if_false _ _ refl))
-    (next_code P 9 (sym (if_false _ _ refl ∙ if_false _ _ refl))
-    (next_code P 10 (above 11 refl (omega arith))
-    (next_code P 11 (above 12 refl (omega arith))
-    (next_code P 12 (above 13 refl (omega arith))
-    (next_code P 13 (above 14 refl (omega arith))
-    (λ m. absurd (omega arith))))))))))))))) l
-  where
-    P : ℕ → Type 0
-    P k = known S (decode (ask k a b c)) ≡ pair_known S k b c
-
-    below : (k : ℕ) → known S (decode (ask k a b c)) ≡ true → k < 9 → P k
-    below k e m = e ∙ sym (if_true _ _ (lt-ltb k 9 m))
-
-    above : (k : ℕ) → known S (decode (ask k a b c)) ≡ true → 10 < k → P k
-    above k e m = e ∙ sym (if_false _ _ (le-ltb k 9 (omega arith)) ∙ if_true _ _ (lt-ltb 10 k m))
-
--- a code below 9 names none
-pub known_below : (S : State) (code a b c : ℕ) → 1 ≤ code → code ≤ 8 → known S (decode (ask code a b c)) ≡ true
-unfolding pair_known
-known_below S code a b c l h = known_pair S code a b c l (omega arith) ∙ if_true _ _ (lt-ltb code 9 (omega arith))
-
 -- ---- the request of each code
 
+-- what is asked is this request, and no pair of error 21
+pub record Asks (p : Ask) (q : Request) : Type 0 where
+  pub request : decode p ≡ q
+  pub pair : carries_bad_pair p ≡ false
+
 module _ {code : ℕ} (a b c : ℕ) where
-  pub open_code : code ≡ 1 → decode (ask code a b c) ≡ opens a b c
+  pub open_code : code ≡ 1 → Asks (ask code a b c) (opens a b c)
   unfolding decode
-  open_code e = rw e
+  open_code e = record { request = rw e; pair = no_pair _ (omega arith) }
 
-  pub close_code : code ≡ 2 → decode (ask code a b c) ≡ closes a b c
+  pub close_code : code ≡ 2 → Asks (ask code a b c) (closes a b c)
   unfolding decode
-  close_code e = rw e
+  close_code e = record { request = rw e; pair = no_pair _ (omega arith) }
 
-  pub start_code : code ≡ 3 → decode (ask code a b c) ≡ starts a b c
+  pub start_code : code ≡ 3 → Asks (ask code a b c) (starts a b c)
   unfolding decode
-  start_code e = rw e
+  start_code e = record { request = rw e; pair = no_pair _ (omega arith) }
 
-  pub end_code : code ≡ 4 → decode (ask code a b c) ≡ ends a
+  pub end_code : code ≡ 4 → Asks (ask code a b c) (ends a)
   unfolding decode
-  end_code e = rw e
+  end_code e = record { request = rw e; pair = no_pair _ (omega arith) }
 
-  pub activate_code : code ≡ 5 → decode (ask code a b c) ≡ activates a b
+  pub activate_code : code ≡ 5 → Asks (ask code a b c) (activates a b)
   unfolding decode
-  activate_code e = rw e
+  activate_code e = record { request = rw e; pair = no_pair _ (omega arith) }
 
-  pub drop_code : code ≡ 6 → decode (ask code a b c) ≡ drops a b
+  pub drop_code : code ≡ 6 → Asks (ask code a b c) (drops a b)
   unfolding decode
-  drop_code e = rw e
+  drop_code e = record { request = rw e; pair = no_pair _ (omega arith) }
 
-  pub assign_code : code ≡ 7 → decode (ask code a b c) ≡ assigns a b
+  pub assign_code : code ≡ 7 → Asks (ask code a b c) (assigns a b)
   unfolding decode
-  assign_code e = rw e
+  assign_code e = record { request = rw e; pair = no_pair _ (omega arith) }
 
-  pub deassign_code : code ≡ 8 → decode (ask code a b c) ≡ deassigns a b
+  pub deassign_code : code ≡ 8 → Asks (ask code a b c) (deassigns a b)
   unfolding decode
-  deassign_code e = rw e
+  deassign_code e = record { request = rw e; pair = no_pair _ (omega arith) }
 
-  pub grant_code : code ≡ 9 → decode (ask code a b c) ≡ grants a b c
+  pub grant_code : code ≡ 9 → Asks (ask code a b c) (grants a b c)
   unfolding decode
-  grant_code e = rw e
+  grant_code e = record { request = rw e; pair = no_pair _ (omega arith) }
 
-  pub revoke_code : code ≡ 10 → decode (ask code a b c) ≡ revokes a b c
+  pub revoke_code : code ≡ 10 → Asks (ask code a b c) (revokes a b c)
   unfolding decode
-  revoke_code e = rw e
+  revoke_code e = record { request = rw e; pair = no_pair _ (omega arith) }
 
-  pub static_code : code ≡ 11 → decode (ask code a b c) ≡ separates a b c
+  pub static_code : code ≡ 11 → bad_pair b c ≡ false → Asks (ask code a b c) (separates a b c)
   unfolding decode
-  static_code e = rw e
+  static_code e n = record { request = rw e; pair = pair_carried _ (omega arith) (omega arith) ∙ n }
 
-  pub dynamic_code : code ≡ 12 → decode (ask code a b c) ≡ separates (16 + a) b c
+  pub dynamic_code : code ≡ 12 → bad_pair b c ≡ false → Asks (ask code a b c) (separates (16 + a) b c)
   unfolding decode
-  dynamic_code e = rw e
+  dynamic_code e n = record { request = rw e; pair = pair_carried _ (omega arith) (omega arith) ∙ n }
 
-  pub link_code : code ≡ 13 → decode (ask code a b c) ≡ links a b
+  pub link_code : code ≡ 13 → Asks (ask code a b c) (links a b)
   unfolding decode
-  link_code e = rw e
+  link_code e = record { request = rw e; pair = no_pair_past _ (omega arith) }
 
-  pub unlink_code : code ≡ 14 → decode (ask code a b c) ≡ unlinks a b
+  pub unlink_code : code ≡ 14 → Asks (ask code a b c) (unlinks a b)
   unfolding decode
-  unlink_code e = rw e
-
--- ---- the request
-
-pub fit_as : {t : List ℕ} {q q' : Request} → q ≡ q' → Fit t q → Fit t q'
-fit_as {t} e f = subst (Fit t) e f
-
-pub served_as : {t t' : List ℕ} {b : Bool} {q q' : Request} → q ≡ q' → Served t t' b q' → Served t t' b q
-served_as {t} {t'} {b} e f = subst (Served t t' b) (sym e) f
+  unlink_code e = record { request = rw e; pair = no_pair_past _ (omega arith) }

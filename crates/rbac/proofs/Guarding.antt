@@ -1,22 +1,25 @@
 -- The guard's refusals in their order, and what follows them. Assumes nothing.
 use Prim.Native.Nat.{ℕ, ◌≤◌}
-use mathlib.Core.Path.{◌≡◌, refl, sym, ◌∙◌}
+use mathlib.Core.Path.{◌≡◌, refl, sym, ap, subst, ◌∙◌}
 use mathlib.Core.Bool.{Bool, true, false}
 use mathlib.Core.List.{List}
 use lib.ListN.{length}
-use Rattle.bits.proofs.Truth.{if_true, if_false, past, stopped}
+use Rattle.std.specs.Prelude.{Ok}
+use Rattle.bits.specs.Words.{◌and◌}
+use Rattle.bits.proofs.Truth.{if_true, if_false, and_left, and_right, true_and, past, stopped}
 use Rattle.table.specs.State.{State}
 use Rattle.table.specs.Sound.{sound}
 use Rattle.table.specs.Reading.{state}
 use Rattle.table.specs.Table.{table_length, is_table}
 use Rattle.table.proofs.Table.{is_table_lem}
-use Rattle.requests.specs.Request.{Ask, ask, refuse}
+use Rattle.requests.specs.Request.{Ask, refuse}
+use Rattle.requests.specs.Answer.{number_of}
 use Rattle.rbac.specs.Roles.{Request, is_code, in_range, carries_bad_pair, decode, known, allowed, changed}
 use Rattle.rbac.specs.Guard.{served, checked, role_step, allowed_sound, changed_sound, sound_step}
-use Rattle.rbac.specs.Served.{Fit, Served}
-use Rattle.rbac.proofs.Codes.{is_code_lem, ranged}
+use Rattle.rbac.specs.Served.{Ranged, Served}
+use Rattle.rbac.proofs.Codes.{Asks, is_code_lem, is_code_elim, ranged}
 use Rattle.requests.proofs.Outcome.{decide_yes, decide_no, Comes, comes_to}
-use Rattle.rbac.proofs.Serving.{served_known}
+use Rattle.rbac.proofs.Serving.{served_known, served_unknown}
 
 module _ (test : State → Request → Bool) (change : State → Request → State) (t : List ℕ) (q : Ask) where
   pub checked_code : is_code q ≡ false → checked test change t q ≡ refuse 15 t
@@ -62,26 +65,34 @@ module _ (t : List ℕ) (q : Ask) where
 
 -- ---- as the code answers: the number and the table of an outcome
 
-module _ {t t' : List ℕ} {q : Request} (k : known (state t) q ≡ true) {b : Bool} (s : Served t t' b q) where
-  pub served_yes : b ≡ true → Comes t' 1 (served allowed_sound changed_sound t q)
-  served_yes e =
-      comes_to (served_known allowed_sound changed_sound t q k ∙ decide_yes 1 1 _ t (sym s.answer ∙ e))
-      (record { answer = refl; table = s.table ∙ if_true _ _ e })
+served_comes : {t t' : List ℕ} {q : Request} (yes : Bool) → known (state t) q ≡ true → Served t t' yes q
+    → Comes t' (number_of (Ok yes)) (served allowed_sound changed_sound t q)
+served_comes {t} {t'} {q} true k s =
+    comes_to (served_known allowed_sound changed_sound t q k ∙ decide_yes 1 1 _ t (sym s.answer)) (record { answer = refl; table = s.table ∙ if_true _ _ refl })
+served_comes {t} {t'} {q} false k s =
+    comes_to (served_known allowed_sound changed_sound t q k ∙ decide_no 1 1 _ t (sym s.answer)) (record { answer = refl; table = s.table ∙ if_false _ _ refl })
 
-  pub served_no : b ≡ false → Comes t' 0 (served allowed_sound changed_sound t q)
-  served_no e =
-      comes_to (served_known allowed_sound changed_sound t q k ∙ decide_no 1 1 _ t (sym s.answer ∙ e))
-      (record { answer = refl; table = s.table ∙ if_false _ _ e })
+-- a request with a code and arguments in range names what is there
+pub is_there : (p : Ask) {q : Request} → Asks p q → is_code p and in_range p ≡ true → Ranged q
+is_there p d r = let l = is_code_elim p (and_left _ _ r) in subst Ranged d.request (ranged p.code p.a p.b p.c l.0 l.1 (and_right _ _ r) d.pair)
 
--- ---- past refusals 12, 15, 16 and 21
+-- what a request on a table comes to
+module _ (t : List ℕ) (p : Ask) (e : length t ≡ table_length) where
+  pub argument_refused : 1 ≤ p.code → p.code ≤ 14 → is_code p and in_range p ≡ false → sound_step t p ≡ refuse 16 t
+  argument_refused l h r =
+      let k = is_code_lem p l h in
+      sound_step_table t p (is_table_lem t e) ∙ checked_argument allowed_sound changed_sound t p k (sym (true_and _ k) ∙ r)
 
-pub record Ready (t : List ℕ) (code a b c : ℕ) : Type 0 where
-  pub fit : Fit t (decode (ask code a b c))
-  pub step : sound_step t (ask code a b c) ≡ served allowed_sound changed_sound t (decode (ask code a b c))
+  module _ (r : is_code p and in_range p ≡ true) where
+    pub pair_refused : carries_bad_pair p ≡ true → sound_step t p ≡ refuse 21 t
+    pair_refused b = sound_step_table t p (is_table_lem t e) ∙ checked_pair allowed_sound changed_sound t p (and_left _ _ r) (and_right _ _ r) b
 
-pub ready : (t : List ℕ) (code a b c : ℕ) → length t ≡ table_length → 1 ≤ code → code ≤ 14 → in_range (ask code a b c) ≡ true
-    → carries_bad_pair (ask code a b c) ≡ false → Ready t code a b c
-ready t code a b c e l h i n = record {
-  fit = record { whole = e; ranged = ranged code a b c l h i n };
-  step = sound_step_served t (ask code a b c) (is_table_lem t e) (is_code_lem (ask code a b c) l h) i n;
-}
+    module _ {q : Request} (d : Asks p q) where
+      reaches : sound_step t p ≡ served allowed_sound changed_sound t q
+      reaches = sound_step_served t p (is_table_lem t e) (and_left _ _ r) (and_right _ _ r) d.pair ∙ ap (served allowed_sound changed_sound t) d.request
+
+      pub unknown_refused : known (state t) q ≡ false → sound_step t p ≡ refuse 17 t
+      unknown_refused k = reaches ∙ served_unknown allowed_sound changed_sound t q k
+
+      pub comes : {t' : List ℕ} {yes : Bool} → known (state t) q ≡ true → Served t t' yes q → Comes t' (number_of (Ok yes)) (sound_step t p)
+      comes k s = comes_to reaches (served_comes _ k s)

@@ -9,7 +9,7 @@ use Rattle.bits.specs.Words.{◌and◌, upd, has, ◌with◌}
 use Rattle.bits.specs.Sets.{each, ◌without◌}
 use Rattle.bits.proofs.Truth.{clash, and_intro, and_left, and_right}
 use Rattle.bits.proofs.Word.{with_elim, with_old, without_old, without_none}
-use Rattle.bits.proofs.Members.{not_empty, each_elim}
+use Rattle.bits.proofs.Membership.{not_empty, each_elim}
 use Rattle.table.specs.State.{State}
 use Rattle.table.specs.Authority.{idle, permission, authorised, may_activate, effective}
 use Rattle.table.specs.Changes.{with_assigned, with_granted, with_owner, with_active, with_holds}

@@ -1,23 +1,28 @@
 -- On a state whose masks are true, the masks that a request can change worked out anew are all masks worked out anew. Assumes nothing.
-use Prim.Native.Nat.{ℕ, ◌+◌, ◌*◌, ◌<◌}
+use Prim.Native.Nat.{ℕ, ◌+◌, ◌*◌, ◌<◌, ◌≤◌}
 use mathlib.Core.Path.{◌≡◌, refl, sym, ap, ap₂, subst, ◌∙◌}
 use mathlib.Core.Bool.{Bool, true, false, not}
 use mathlib.Core.List.{List}
-use lib.Dec.{eqb}
-use lib.ListN.{get_or}
-use borrow.Author.Tests.{eqb-true, eqb-false}
-use Rattle.bits.specs.Words.{when◌then◌else◌, has, pack, ◌with◌, tabulate}
+use lib.Dec.{eqb, ltb}
+use lib.ListN.{get_or, length, replicate, length-replicate, get_or-replicate}
+use lib.Seq.{ext_get_or}
+use native.Mathlib.Omega.{arith}
+use borrow.Rule.Slice.PartMut.{mid_of, put_mid}
+use borrow.Author.Tests.{eqb-true, eqb-false, ltb-true, ltb-false}
+use Rattle.std.proofs.Common.{rules}
+use Rattle.std.proofs.lemmas.List.{places}
+use Rattle.bits.specs.Words.{when◌then◌else◌, has, pack, ◌with◌}
 use Rattle.bits.specs.Sets.{◌without◌}
 use Rattle.bits.proofs.Truth.{by_truth, if_true, if_false, or_left, false_or, true_and, false_and, not_intro}
 use Rattle.bits.proofs.Word.{has_pack, pack_cong, pack_is, has_with, has_without, with_lt, without_lt, with_same, without_same}
-use Rattle.bits.proofs.Tabulate.{length_tabulate, get_d_tabulate}
 use Rattle.table.specs.State.{State}
 use Rattle.table.specs.Authority.{effective}
 use Rattle.table.specs.Answers.{overlay}
 use Rattle.table.specs.Changes.{with_owner, with_active, with_granted}
 use Rattle.table.specs.Masks.{mask_of, put, refreshed, refreshed_at, refreshed_pair, MasksTrue}
-use Rattle.table.specs.Table.{encode}
-use Rattle.table.proofs.Encode.{encode_cong}
+use Rattle.table.specs.Table.{table_length, encode}
+use Rattle.table.proofs.Answers.{length_overlay, overlay_at, overlay_before, overlay_past}
+use Rattle.table.proofs.Encode.{encode_length, encode_cong}
 use Rattle.table.proofs.Overlaying.{write_held, write_masks}
 use Rattle.table.proofs.Agree.{Agree, agree_refl, agree_set_masks, agree_with_holds, agree_with_masks, true_refreshed, by_upd, upd_same, upd_other, by_grid, grid_same}
 use Rattle.table.proofs.Keeps.{effective_same, mask_same, no_roles_mask}
@@ -131,18 +136,47 @@ module _ (S : State) (f : MasksTrue S) where
   changed_same (links r q) h = agree_refl _
   changed_same (unlinks r q) h = agree_refl _
 
+-- ---- words of a table that are written at once
+
+module _ (t : List ℕ) (at : ℕ) {k : ℕ} (words : List ℕ) (e : k ≡ length words) (h : at + length words ≤ length t) where
+  length_written : length (put_mid at k t words) ≡ length t
+  length_written = search (rules, places)
+
+  pub written_over : put_mid at k t words ≡ overlay t at words
+  written_over =
+      let long = length_written in
+      ext_get_or 0 _ _ (long ∙ sym (length_overlay t at words)) (λ j l.
+      by_truth (ltb j at)
+      (λ b. let m = ltb-true j at b in let n = overlay_before t at words j m (omega arith) in search (rules, places))
+      (λ b. let m = ltb-false j at b in
+      by_truth (ltb j (at + length words))
+      (λ d. let n = ltb-true j _ d in let o = overlay_at t at words j m n (omega arith) in search (rules, places))
+      (λ d. let n = ltb-false j _ d in let o = overlay_past t at words j n (omega arith) in search (rules, places))))
+
 -- ---- a session that ends may open nothing: its masks are cleared with what it holds
 
-pub ended_is : {t t₁ t₂ : List ℕ} (S : State) (s : ℕ) → s < 32 → t ≡ encode (with_active (with_owner S s 0) s 0)
-    → t₁ ≡ overlay t (712 + 8 * s) (tabulate 8 (λ i. 0)) → t₂ ≡ overlay t₁ (1096 + 8 * s) (tabulate 8 (λ i. 0)) → t₂ ≡ encode (changed_sound S (ends s))
-ended_is S s h z e k =
-    let held = e ∙ write_held _ z s zeros h (length_tabulate 8 _) in
-    k ∙ write_masks _ held s zeros h (length_tabulate 8 _)
-    ∙ encode_cong (agree_with_masks (agree_with_holds (agree_refl (with_active (with_owner S s 0) s 0)) s at) s (λ x l.
-    at x l ∙ sym (no_roles_mask (moved S (ends s)) s x (upd_same S.active s 0))))
-  where
-    zeros : List ℕ
-    zeros = tabulate 8 (λ i. 0)
+-- what a fill of eight words leaves of them
+eight_zeros : (t : List ℕ) (at : ℕ) {k : ℕ} {words : List ℕ} → k ≡ 8 → at + 8 ≤ length t → words ≡ replicate (length (mid_of at k t)) 0 → words ≡ replicate 8 0
+eight_zeros t at {k} e h z =
+    let n : length (mid_of at k t) ≡ 8 = search (rules, places) in
+    z ∙ ap (λ (m : ℕ). replicate m 0) n
 
-    at : (x : ℕ) → x < 8 → get_or zeros x 0 ≡ 0
-    at x l = get_d_tabulate 8 _ 0 x l
+pub ended_is : {t held masks : List ℕ} {k l : ℕ} (S : State) (s : ℕ) → s < 32 → t ≡ encode (with_active (with_owner S s 0) s 0) → k ≡ 8 → l ≡ 8
+    → held ≡ replicate (length (mid_of (712 + 8 * s) k t)) 0
+    → masks ≡ replicate (length (mid_of (1096 + 8 * s) l (put_mid (712 + 8 * s) k t held))) 0
+    → put_mid (1096 + 8 * s) l (put_mid (712 + 8 * s) k t held) masks ≡ encode (changed_sound S (ends s))
+ended_is {t} {held} {masks} S s h z ek el e f =
+    let n : length t ≡ table_length = ap length z ∙ encode_length _ in
+    let held_zeros = eight_zeros t (712 + 8 * s) ek (omega arith) e in
+    let a : length held ≡ 8 = ap length held_zeros ∙ length-replicate {A = ℕ} 8 0 in
+    let held_written = written_over t (712 + 8 * s) held (ek ∙ sym a) (omega arith) ∙ write_held _ z s held h a in
+    let m : length (put_mid (712 + 8 * s) _ t held) ≡ table_length = ap length held_written ∙ encode_length _ in
+    let masks_zeros = eight_zeros (put_mid (712 + 8 * s) _ t held) (1096 + 8 * s) el (omega arith) f in
+    let b : length masks ≡ 8 = ap length masks_zeros ∙ length-replicate {A = ℕ} 8 0 in
+    written_over _ (1096 + 8 * s) masks (el ∙ sym b) (omega arith)
+    ∙ write_masks _ held_written s masks h b
+    ∙ encode_cong (agree_with_masks (agree_with_holds (agree_refl (with_active (with_owner S s 0) s 0)) s (at held_zeros)) s (λ x l.
+    at masks_zeros x l ∙ sym (no_roles_mask (moved S (ends s)) s x (upd_same S.active s 0))))
+  where
+    at : {words : List ℕ} → words ≡ replicate 8 0 → (x : ℕ) → x < 8 → get_or words x 0 ≡ 0
+    at e x l = ap (λ (w : List ℕ). get_or w x 0) e ∙ get_or-replicate 8 x 0 0 l

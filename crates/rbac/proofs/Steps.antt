@@ -7,7 +7,7 @@ use native.Mathlib.Omega.{arith}
 use Rattle.bits.specs.Words.{◌and◌, has, ◌with◌}
 use Rattle.bits.specs.Sets.{◌without◌}
 use Rattle.bits.proofs.Truth.{by_truth, and_assoc}
-use Rattle.bits.proofs.Members.{each_cong}
+use Rattle.bits.proofs.Membership.{each_cong}
 use Rattle.table.specs.State.{State}
 use Rattle.table.specs.Separation.{separated}
 use Rattle.table.specs.Masks.{MasksTrue}

@@ -1,11 +1,10 @@
 -- What the private functions, one for each request, take and answer. No promise rests on this page.
-use Rattle.std.specs.Prelude.{◌<◌, ◌≡◌}
-use Rattle.bits.specs.Words.{ℕ, Bool, true, List, ltb, length, when◌then◌else◌}
-use Rattle.table.specs.State.{State}
-use Rattle.table.specs.Authority.{permission}
+use Rattle.std.specs.Prelude.{◌<◌, ◌≡◌, Result, MatchResult}
+use Rattle.bits.specs.Words.{ℕ, Bool, true, false, List, when◌then◌else◌}
 use Rattle.table.specs.Separation.{GoodPair}
 use Rattle.table.specs.Reading.{state}
-use Rattle.table.specs.Table.{table_length, encode}
+use Rattle.table.specs.Table.{encode}
+use Rattle.requests.specs.declared.Refusal.{Refusal}
 use Rattle.rbac.specs.Roles.{Request, opens, closes, starts, ends, activates, drops, assigns, deassigns, grants, revokes, separates, links, unlinks}
 use Rattle.rbac.specs.Guard.{allowed_sound, changed_sound}
 
@@ -25,16 +24,11 @@ Ranged (separates n roles bound) = (n < 32) × GoodPair roles bound
 Ranged (links r q) = (r < 64) × (q < 64)
 Ranged (unlinks r q) = (r < 64) × (q < 64)
 
--- a table and a request on what is there
-pub record Fit (t : List ℕ) (q : Request) : Type 0 where
-  pub whole : length t ≡ table_length
-  pub ranged : Ranged q
-
--- the pair (x, o) of a grant or revoke is a permission; the other codes name none
-unfoldable pub pair_known : State → ℕ → ℕ → ℕ → Bool
-pair_known S code x o = when ltb code 9 then true else when ltb 10 code then true else permission S x o
-
 -- yes or no and the table t' are what the request on t comes to, where t is known to be sound and no refusal fits
 pub record Served (t t' : List ℕ) (yes : Bool) (q : Request) : Type 0 where
   pub answer : yes ≡ allowed_sound (state t) q
   pub table : t' ≡ (when yes then encode (changed_sound (state t) q) else t)
+
+-- refused for this reason where the test fails, and passed where it does not
+abbrev pub RefusedFor : {A : Type 0} → Result A Refusal → Refusal → Bool → Type 0
+RefusedFor result why fails = MatchResult result (λ passed. fails ≡ false) (λ r. (r ≡ why) × (fails ≡ true))

@@ -3,7 +3,7 @@ use Prim.Native.Nat.{ℕ, ◌+◌, ◌*◌}
 use mathlib.Core.Path.{◌≡◌, refl, sym, ap}
 use mathlib.Core.Bool.{true, false}
 use mathlib.Core.List.{List, [], ◌∷◌}
-use mathlib.Core.Option.{Option, some, none}
+use Rattle.std.specs.Prelude.{Option, Some, None}
 use native.Mathlib.Omega.{arith}
 use borrow.Author.Tests.{eqb-true, ne_eqb}
 use Rattle.bits.proofs.Truth.{clash, and_left, by_if}
@@ -11,22 +11,20 @@ use Rattle.reader.specs.Bytes.{empty}
 use Rattle.reader.specs.Line.{behind}
 use Rattle.reader.specs.Reader.{word_of, begun, tabbed, pushed, step_of, steps, fresh}
 use Rattle.reader.specs.declared.Word.{Word}
-use Rattle.reader.specs.declared.Spelled.{Spelled}
-use Rattle.reader.specs.declared.Spelled.TheVariants.{As, Nothing}
 use Rattle.reader.specs.declared.Fields.{Fields}
 use Rattle.reader.specs.declared.Reader.{Reader}
 use Rattle.reader.specs.declared.Reader.TheVariants.{Letters, Tab, Digits, Broken}
 use Rattle.reader.proofs.Stepping.{letter_least}
 
-fresh_begun : (o : Spelled) → fresh (begun o) ≡ false
+fresh_begun : (o : Option Word) → fresh (begun o) ≡ false
 unfolding fresh begun
-fresh_begun (As w) = refl
-fresh_begun Nothing = refl
+fresh_begun (Some w) = refl
+fresh_begun None = refl
 
 fresh_tabbed : (w : Word) (o : Option Fields) → fresh (tabbed w o) ≡ false
 unfolding fresh tabbed
-fresh_tabbed w (some fs) = refl
-fresh_tabbed w none = refl
+fresh_tabbed w (Some fs) = refl
+fresh_tabbed w None = refl
 
 -- it is at no line's start
 abbrev Within : Reader → Type 0

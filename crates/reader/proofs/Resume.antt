@@ -3,19 +3,16 @@ use Prim.Native.Nat.{ℕ, ◌+◌, ◌-◌, ◌*◌, ◌^◌}
 use mathlib.Core.Path.{◌≡◌, refl, sym, ap, ◌∙◌}
 use mathlib.Core.Bool.{Bool, false}
 use mathlib.Core.List.{List, [], ◌∷◌, ◌++◌}
-use mathlib.Core.Option.{Option, some, none}
+use Rattle.std.specs.Prelude.{Option, Some, None}
 use lib.Dec.{eqb, ltb}
 use borrow.Author.Tests.{eqb-true}
 use Rattle.bits.specs.Words.{◌and◌, when◌then◌else◌}
 use Rattle.reader.specs.Line.{first, others, spelled, digit, number, behind, push, fields, joined}
 use Rattle.reader.specs.Reader.{letter, word_of, begun, tabbed, pushed, step_of, ended, finished, steps}
 use Rattle.reader.specs.declared.Word.{Word}
-use Rattle.reader.specs.declared.Spelled.{Spelled}
-use Rattle.reader.specs.declared.Spelled.TheVariants.{As, Nothing}
 use Rattle.reader.specs.declared.Fields.{Fields}
 use Rattle.reader.specs.declared.Fields.TheVariants.{Without}
 use Rattle.reader.specs.declared.Line.{Line}
-use Rattle.reader.specs.declared.Line.TheVariants.{Refused}
 use Rattle.reader.specs.declared.Reader.{Reader}
 use Rattle.reader.specs.declared.Reader.TheVariants.{Letters, Tab, Digits, Broken}
 use Rattle.reader.proofs.Words.{letters_from, letters_spelled}
@@ -41,31 +38,31 @@ steps_more s l b = steps_append s l (b ∷ [])
 
 -- ---- what a reader makes of what is left of the piece it stands in, and of the pieces behind that
 
-unfoldable resume : Reader → List ℕ → List (List ℕ) → Line
-resume (Letters x) p ps = joined (letters_from x p) (fields ps (some Without))
-resume (Tab w fs) p ps = joined (As w) (fields ps (push (some fs) (number p)))
-resume (Digits w fs v) p ps = joined (As w) (fields ps (push (some fs) (digits_from v p)))
-resume Broken p ps = Refused
+unfoldable resume : Reader → List ℕ → List (List ℕ) → Option Line
+resume (Letters x) p ps = joined (letters_from x p) (fields ps (Some Without))
+resume (Tab w fs) p ps = joined (Some w) (fields ps (push (Some fs) (number p)))
+resume (Digits w fs v) p ps = joined (Some w) (fields ps (push (Some fs) (digits_from v p)))
+resume Broken p ps = None
 
-pub fields_none : (ps : List (List ℕ)) → fields ps none ≡ none
+pub fields_none : (ps : List (List ℕ)) → fields ps None ≡ None
 unfolding fields push
 fields_none [] = refl
 fields_none (p ∷ ps) = fields_none ps
 
-refused : (w : Word) (ps : List (List ℕ)) → joined (As w) (fields ps none) ≡ Refused
+refused : (w : Word) (ps : List (List ℕ)) → joined (Some w) (fields ps None) ≡ None
 unfolding joined
 refused w ps = rw (fields_none ps)
 
 -- a tab
-after_word : (o : Spelled) (p : List ℕ) (ps : List (List ℕ)) → joined o (fields (p ∷ ps) (some Without)) ≡ resume (begun o) p ps
+after_word : (o : Option Word) (p : List ℕ) (ps : List (List ℕ)) → joined o (fields (p ∷ ps) (Some Without)) ≡ resume (begun o) p ps
 unfolding joined fields resume begun
-after_word (As w) p ps = refl
-after_word Nothing p ps = refl
+after_word (Some w) p ps = refl
+after_word None p ps = refl
 
-after_field : (w : Word) (o : Option Fields) (p : List ℕ) (ps : List (List ℕ)) → joined (As w) (fields (p ∷ ps) o) ≡ resume (tabbed w o) p ps
+after_field : (w : Word) (o : Option Fields) (p : List ℕ) (ps : List (List ℕ)) → joined (Some w) (fields (p ∷ ps) o) ≡ resume (tabbed w o) p ps
 unfolding fields resume tabbed
-after_field w (some fs) p ps = refl
-after_field w none p ps = refused w (p ∷ ps)
+after_field w (Some fs) p ps = refl
+after_field w None p ps = refused w (p ∷ ps)
 
 resume_tab : (s : Reader) (p : List ℕ) (ps : List (List ℕ)) → resume s [] (p ∷ ps) ≡ resume (step_of s 9) p ps
 unfolding resume step_of along digits_from pushed push
@@ -76,7 +73,7 @@ resume_tab Broken p ps = refl
 
 -- another byte
 field_byte : (good : Bool) (w : Word) (fs : Fields) (v : ℕ) (p : List ℕ) (ps : List (List ℕ))
-    → joined (As w) (fields ps (push (some fs) (when good then digits_from v p else none))) ≡ resume (when good then Digits w fs v else Broken) p ps
+    → joined (Some w) (fields ps (push (Some fs) (when good then digits_from v p else None))) ≡ resume (when good then Digits w fs v else Broken) p ps
 unfolding resume push
 field_byte good w fs v p ps = by_truth good (λ g. simp if_true) (λ g. simp if_false (refused w ps))
 
@@ -88,20 +85,20 @@ resume_byte (Digits w fs v) b p ps h = rw (if_false _ _ h) (field_byte _ w fs (v
 resume_byte Broken b p ps h = refl
 
 -- the newline
-word_ends : (o : Spelled) → ended (begun o) ≡ joined o (some Without)
+word_ends : (o : Option Word) → ended (begun o) ≡ joined o (Some Without)
 unfolding ended begun joined
-word_ends (As w) = refl
-word_ends Nothing = refl
+word_ends (Some w) = refl
+word_ends None = refl
 
-field_ends : (w : Word) (o : Option Fields) → ended (tabbed w o) ≡ joined (As w) o
+field_ends : (w : Word) (o : Option Fields) → ended (tabbed w o) ≡ joined (Some w) o
 unfolding ended tabbed joined
-field_ends w (some fs) = refl
-field_ends w none = refl
+field_ends w (Some fs) = refl
+field_ends w None = refl
 
 resume_end : (s : Reader) → finished s ≡ resume s [] []
 unfolding finished step_of resume along digits_from fields push pushed tabbed ended
 resume_end (Letters x) = rw (word_tab x) (word_ends (word_of x))
-resume_end (Tab w fs) = rw (field_tab w fs, number_none) (field_ends w none)
+resume_end (Tab w fs) = rw (field_tab w fs, number_none) (field_ends w None)
 resume_end (Digits w fs v) = rw (digits_tab w fs v) (field_ends w (behind fs v))
 resume_end Broken = refl
 
@@ -114,6 +111,6 @@ finished_steps s (b ∷ l) =
     (λ e. simp if_false (sym (resume_byte s b (first l) (others l) e)))
 
 -- the line that was read, but for the limit of 128 bytes
-pub finished_joined : (l : List ℕ) → finished (steps (Letters 0) l) ≡ joined (spelled (first l)) (fields (others l) (some Without))
+pub finished_joined : (l : List ℕ) → finished (steps (Letters 0) l) ≡ joined (spelled (first l)) (fields (others l) (Some Without))
 unfolding resume
-finished_joined l = finished_steps (Letters 0) l ∙ ap (λ (o : Spelled). joined o (fields (others l) (some Without))) (letters_spelled (first l))
+finished_joined l = finished_steps (Letters 0) l ∙ ap (λ (o : Option Word). joined o (fields (others l) (Some Without))) (letters_spelled (first l))

@@ -3,7 +3,8 @@ use Prim.Native.Nat.{ℕ, ◌+◌, ◌-◌, ◌*◌, ◌^◌, ◌≤◌, ◌<◌
 use mathlib.Core.Path.{◌≡◌, refl, sym, ap, ap₂, ◌∙◌}
 use mathlib.Core.Bool.{Bool, true, false}
 use mathlib.Core.List.{List, [], ◌∷◌, ◌++◌, append-nil}
-use mathlib.Core.Option.{some, none-ne-some}
+use Rattle.std.specs.Prelude.{Some}
+use Rattle.std.proofs.lemmas.Option.{none-some}
 use native.Mathlib.Omega.{arith}
 use lib.Dec.{eqb}
 use borrow.Author.Tests.{eqb-true, le-leb, lt-ltb, ne_eqb}
@@ -58,14 +59,14 @@ shown_more {l} {v} {d} s h k = record {
   worth_is = worth_more 0 l (48 + d) ∙ omega (arith, s.worth_is);
 }
 
-pub shown_number : {p : List ℕ} {n : ℕ} → Shown p n → n < 2 ^ 64 → number p ≡ some n
+pub shown_number : {p : List ℕ} {n : ℕ} → Shown p n → n < 2 ^ 64 → number p ≡ Some n
 unfolding number
 shown_number {p} {n} s h =
-    if_true _ _ (and_intro s.plainly (lt-ltb (worth 0 p) (2 ^ 64) (omega (arith, s.worth_is)))) ∙ ap some s.worth_is
+    if_true _ _ (and_intro s.plainly (lt-ltb (worth 0 p) (2 ^ 64) (omega (arith, s.worth_is)))) ∙ ap Some s.worth_is
 
 -- ---- numbers among the pieces of a line
 
-number_digits : (p : List ℕ) {n : ℕ} → number p ≡ some n → every digit p ≡ true
+number_digits : (p : List ℕ) {n : ℕ} → number p ≡ Some n → every digit p ≡ true
 unfolding number plain every
 number_digits [] h = refl
 number_digits (b ∷ l) {n} h =
@@ -73,7 +74,7 @@ number_digits (b ∷ l) {n} h =
     (λ p.
     let rest = and_right (digit b) _ p in
     and_intro (and_left _ _ p) (by_truth (eqb b 48) (λ e. ap (every digit) (empty_is l (sym (if_true _ _ e) ∙ rest))) (λ e. sym (if_false _ _ e) ∙ rest)))
-    (λ p. absurd (none-ne-some n (sym (if_false _ _ (false_and _ p)) ∙ h)))
+    (λ p. absurd (none-some n (sym (if_false _ _ (false_and _ p)) ∙ h)))
 
 not_tab : (b : ℕ) → digit b ≡ true → eqb b tab ≡ false
 not_tab b h = let low = digit_least b h in ne_eqb b 9 (λ e. omega arith)
@@ -102,9 +103,9 @@ unfolding first others
 pieces_end p h = ap pieces (sym (append-nil p)) ∙ ap₂ ◌∷◌ (first_digits p [] h ∙ append-nil p) (others_digits p [] h)
 
 -- three numbers with a tab between each two are three fields
-pub fields_three : (p q r : List ℕ) {a b c : ℕ} → number p ≡ some a → number q ≡ some b → number r ≡ some c
-    → fields (pieces (p ++ tab ∷ (q ++ tab ∷ r))) (some Without) ≡ some (Three a b c)
+pub fields_three : (p q r : List ℕ) {a b c : ℕ} → number p ≡ Some a → number q ≡ Some b → number r ≡ Some c
+    → fields (pieces (p ++ tab ∷ (q ++ tab ∷ r))) (Some Without) ≡ Some (Three a b c)
 unfolding fields push behind
 fields_three p q r x y z =
     let apart = pieces_tab p _ (number_digits p x) ∙ ap (λ (ps : List (List ℕ)). p ∷ ps) (pieces_tab q r (number_digits q y) ∙ ap (λ (ps : List (List ℕ)). q ∷ ps) (pieces_end r (number_digits r z))) in
-    ap (λ (ps : List (List ℕ)). fields ps (some Without)) apart ∙ rw (x, y, z)
+    ap (λ (ps : List (List ℕ)). fields ps (Some Without)) apart ∙ rw (x, y, z)

@@ -3,7 +3,7 @@ use Prim.Native.Nat.{ℕ, ◌+◌, ◌-◌, ◌*◌, ◌^◌, ◌<◌, ◌≤◌
 use mathlib.Core.Path.{◌≡◌, refl, sym, ◌∙◌}
 use mathlib.Core.Bool.{Bool, true, false}
 use mathlib.Core.List.{List, [], ◌∷◌}
-use mathlib.Core.Option.{Option, some, none}
+use Rattle.std.specs.Prelude.{Option, Some, None}
 use native.Mathlib.Omega.{arith}
 use native.Mathlib.Nat.{le_trans, lt_of_le_of_lt, zero-add}
 use lib.Dec.{eqb, ltb}
@@ -57,16 +57,16 @@ worth_total v (b ∷ l) = worth_total (v * 10 + (b - 48)) l
 
 -- what a field is worth that goes on behind digits that are worth v: nothing may stand behind a 0
 unfoldable pub digits_from : ℕ → List ℕ → Option ℕ
-digits_from v [] = some v
-digits_from v (b ∷ p) = when◌then◌else◌ (ltb 0 v and (digit b and ltb (v * 10 + (b - 48)) (2 ^ 64))) (digits_from (v * 10 + (b - 48)) p) none
+digits_from v [] = Some v
+digits_from v (b ∷ p) = when◌then◌else◌ (ltb 0 v and (digit b and ltb (v * 10 + (b - 48)) (2 ^ 64))) (digits_from (v * 10 + (b - 48)) p) None
 
 -- behind another digit this is a digit at a time
-digits_along : (v : ℕ) (p : List ℕ) → 0 < v → digits_from v p ≡ along digit 10 (λ b. b - 48) some none v p
+digits_along : (v : ℕ) (p : List ℕ) → 0 < v → digits_from v p ≡ along digit 10 (λ b. b - 48) Some None v p
 unfolding digits_from along
 digits_along v [] h = refl
 digits_along v (b ∷ p) h = rw (true_and _ (lt-ltb 0 v h), digits_along (v * 10 + (b - 48)) p (omega arith))
 
-pub number_none : number [] ≡ none
+pub number_none : number [] ≡ None
 unfolding number plain
 number_none = if_false _ _ (false_and _ refl)
 
@@ -81,11 +81,11 @@ number_digits b p e f =
     let least = digit_least b f in
     let most = digit_most b f in
     let other : b ≡ 48 → ⊥ = eqb-false b 48 e in
-    let whole = along_total digit 10 (λ b. b - 48) (λ v b. omega arith) some none (b - 48) p (omega arith) in
+    let whole = along_total digit 10 (λ b. b - 48) (λ v b. omega arith) Some None (b - 48) p (omega arith) in
     rw (true_and _ f, if_false _ _ e, zero-add) (sym (rw (worth_total (b - 48) p) at whole)) ∙ sym (digits_along (b - 48) p (omega arith))
 
 -- a field a byte at a time
-pub number_along : (b : ℕ) (p : List ℕ) → number (b ∷ p) ≡ (when digit b then digits_from (b - 48) p else none)
+pub number_along : (b : ℕ) (p : List ℕ) → number (b ∷ p) ≡ (when digit b then digits_from (b - 48) p else None)
 unfolding number plain
 number_along b p =
     by_truth (digit b)

@@ -5,13 +5,13 @@ use mathlib.Core.Bool.{Bool, true}
 use mathlib.Core.List.{List, [], ◌∷◌, reverse_aux, reverse, reverse-reverse}
 use native.Mathlib.Omega.{arith}
 use lib.Dec.{eqb, ltb, lit<}
+use Rattle.std.specs.Prelude.{Option, None}
 use borrow.Author.Tests.{eqb-true, eq-eqb, ne_eqb}
 use Rattle.bits.specs.Words.{◌and◌, when◌then◌else◌}
 use Rattle.reader.specs.Bytes.{every, same}
 use Rattle.reader.specs.Line.{Entry, words, find, spelled}
 use Rattle.reader.specs.Reader.{letter, packed, known, word_of}
-use Rattle.reader.specs.declared.Spelled.{Spelled}
-use Rattle.reader.specs.declared.Spelled.TheVariants.{Nothing}
+use Rattle.reader.specs.declared.Word.{Word}
 use Rattle.bits.proofs.Truth.{clash, by_truth, and_left, and_right, and_intro, if_true, if_false, if_same}
 use Rattle.reader.proofs.Stepping.{letter_least, letter_most}
 use Rattle.reader.proofs.Values.{along, total, along_total}
@@ -79,22 +79,22 @@ all_fit : List Entry → Bool
 all_fit [] = true
 all_fit (e ∷ es) = fit e.letters and all_fit es
 
-packed_find : (es : List Entry) (p : List ℕ) → all_fit es ≡ true → (when fit p then known es (packed 0 p) else Nothing) ≡ find es p
+packed_find : (es : List Entry) (p : List ℕ) → all_fit es ≡ true → (when fit p then known es (packed 0 p) else None) ≡ find es p
 unfolding find all_fit
-packed_find [] p h = if_same (fit p) Nothing
+packed_find [] p h = if_same (fit p) None
 packed_find (e ∷ es) p h =
     let here : fit e.letters ≡ true = and_left _ _ h in
     by_truth (same p e.letters)
     (λ a. let q = same_true p e.letters a in
     if_true _ _ (ap fit q ∙ here) ∙ if_true _ _ (eq-eqb _ _ (ap (packed 0) q)) ∙ sym (if_true _ _ a))
     (λ a.
-    let rest : (when fit p then known es (packed 0 p) else Nothing) ≡ find (e ∷ es) p =
+    let rest : (when fit p then known es (packed 0 p) else None) ≡ find (e ∷ es) p =
     packed_find es p (and_right (fit e.letters) _ h) ∙ sym (if_false _ _ a) in
     by_truth (fit p)
     (λ b.
     let differ : packed 0 p ≡ packed 0 e.letters → ⊥ = λ q.
     clash (rw (packed_injective p e.letters (and_left _ _ b) (and_left _ _ here) q) (same_refl e.letters)) a in
-    ap (λ (o : Spelled). when fit p then o else Nothing) (if_false _ _ (ne_eqb _ _ differ)) ∙ rest)
+    ap (λ (o : Option Word). when fit p then o else None) (if_false _ _ (ne_eqb _ _ differ)) ∙ rest)
     (λ b. if_false _ _ b ∙ sym (if_false _ _ b) ∙ rest))
 
 packed_total : (x : ℕ) (l : List ℕ) → total 256 (λ b. b) x l ≡ packed x l
@@ -103,11 +103,11 @@ packed_total x [] = refl
 packed_total x (b ∷ l) = packed_total (x * 256 + b) l
 
 -- letters a byte at a time
-abbrev pub letters_from : ℕ → List ℕ → Spelled
-letters_from = along letter 256 (λ b. b) word_of Nothing
+abbrev pub letters_from : ℕ → List ℕ → Option Word
+letters_from = along letter 256 (λ b. b) word_of None
 
 pub letters_spelled : (p : List ℕ) → letters_from 0 p ≡ spelled p
 unfolding spelled word_of all_fit every ◌and◌
 letters_spelled p =
-    along_total letter 256 (λ b. b) (λ v b. omega arith) word_of Nothing 0 p (lit< tt)
+    along_total letter 256 (λ b. b) (λ v b. omega arith) word_of None 0 p (lit< tt)
     ∙ rw (packed_total 0 p) (packed_find words p refl)

@@ -1,18 +1,14 @@
 -- What a line of the transcript program is: refusal 10 of 01 and its section on the program. A line is its bytes without
 -- the newline. Whether the word belongs to the mode, and takes as many fields, is said in crate entries.
-use Rattle.std.specs.Prelude.{◌+◌, ◌-◌, ◌*◌, ◌^◌, ◌∷◌}
+use Rattle.std.specs.Prelude.{◌+◌, ◌-◌, ◌*◌, ◌^◌, ◌∷◌, Option, Some, None}
 use Prim.Native.Char.{code}
 use Rattle.bits.specs.Words.{ℕ, Bool, false, List, [], eqb, leb, ltb, length, ◌and◌, when◌then◌else◌}
-use Rattle.std.proofs.Math.Option.{Option, some, none}
 use Rattle.reader.specs.Bytes.{ascii, tab, every, empty, same}
 use Rattle.reader.specs.declared.Word.{Word}
 use Rattle.reader.specs.declared.Word.TheVariants.{Roles, Lattice, Above, Permit, Clear, Label, Run, Open, Close, Start, End, Activate, Drop, Assign, Deassign, Grant, Revoke, Reclear}
-use Rattle.reader.specs.declared.Spelled.{Spelled}
-use Rattle.reader.specs.declared.Spelled.TheVariants.{As, Nothing}
 use Rattle.reader.specs.declared.Fields.{Fields}
 use Rattle.reader.specs.declared.Fields.TheVariants.{Without, One, Two, Three}
 use Rattle.reader.specs.declared.Line.{Line}
-use Rattle.reader.specs.declared.Line.TheVariants.{Read, Refused}
 
 -- the bytes before the first tab
 unfoldable pub first : List ℕ → List ℕ
@@ -56,12 +52,12 @@ words =
     []
 
 -- the word of a list that has these letters
-unfoldable pub find : List Entry → List ℕ → Spelled
-find [] p = Nothing
-find (e ∷ es) p = when same p e.letters then As e.word else find es p
+unfoldable pub find : List Entry → List ℕ → Option Word
+find [] p = None
+find (e ∷ es) p = when same p e.letters then Some e.word else find es p
 
 -- the word that a piece spells
-unfoldable pub spelled : List ℕ → Spelled
+unfoldable pub spelled : List ℕ → Option Word
 spelled p = find words p
 
 -- 0 to 9
@@ -80,20 +76,20 @@ plain (b ∷ l) = digit b and (when eqb b (code "0") then empty l else every dig
 
 -- the number that a piece is: below 2^64
 unfoldable pub number : List ℕ → Option ℕ
-number p = when plain p and ltb (worth 0 p) (2 ^ 64) then some (worth 0 p) else none
+number p = when plain p and ltb (worth 0 p) (2 ^ 64) then Some (worth 0 p) else None
 
 -- the fields with one number more: three at most
 unfoldable pub behind : Fields → ℕ → Option Fields
-behind Without n = some (One n)
-behind (One a) n = some (Two a n)
-behind (Two a b) n = some (Three a b n)
-behind (Three a b c) n = none
+behind Without n = Some (One n)
+behind (One a) n = Some (Two a n)
+behind (Two a b) n = Some (Three a b n)
+behind (Three a b c) n = None
 
 -- the same with what a piece is: without a number there, no fields
 unfoldable pub push : Option Fields → Option ℕ → Option Fields
-push none n = none
-push (some fs) none = none
-push (some fs) (some n) = behind fs n
+push None n = None
+push (Some fs) None = None
+push (Some fs) (Some n) = behind fs n
 
 -- the fields with those that pieces are, in order
 unfoldable pub fields : List (List ℕ) → Option Fields → Option Fields
@@ -101,11 +97,11 @@ fields [] fs = fs
 fields (p ∷ ps) fs = fields ps (push fs (number p))
 
 -- a line with this word and these fields
-unfoldable pub joined : Spelled → Option Fields → Line
-joined Nothing fs = Refused
-joined (As w) none = Refused
-joined (As w) (some fs) = Read w fs
+unfoldable pub joined : Option Word → Option Fields → Option Line
+joined None fs = None
+joined (Some w) None = None
+joined (Some w) (Some fs) = Some (record { word = w; fields = fs })
 
 -- the line that bytes are: at most 128 of them, a word, and a number behind each tab
-unfoldable pub line : List ℕ → Line
-line l = when leb (length l) 128 then joined (spelled (first l)) (fields (others l) (some Without)) else Refused
+unfoldable pub line : List ℕ → Option Line
+line l = when leb (length l) 128 then joined (spelled (first l)) (fields (others l) (Some Without)) else None

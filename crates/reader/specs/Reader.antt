@@ -1,18 +1,14 @@
 -- The reader, a byte at a time: where it stands after each, and what it makes of the line at its end. Claims says that
 -- this is what Line says of the whole line.
-use Rattle.std.specs.Prelude.{◌+◌, ◌-◌, ◌*◌, ◌^◌, ◌∷◌}
+use Rattle.std.specs.Prelude.{◌+◌, ◌-◌, ◌*◌, ◌^◌, ◌∷◌, Option, Some, None}
 use Prim.Native.Char.{code}
 use Rattle.bits.specs.Words.{ℕ, Bool, false, List, [], eqb, leb, ltb, ◌and◌, when◌then◌else◌}
-use Rattle.std.proofs.Math.Option.{Option, some, none}
 use Rattle.reader.specs.Bytes.{tab}
 use Rattle.reader.specs.Line.{Entry, words, digit, behind}
 use Rattle.reader.specs.declared.Word.{Word}
-use Rattle.reader.specs.declared.Spelled.{Spelled}
-use Rattle.reader.specs.declared.Spelled.TheVariants.{As, Nothing}
 use Rattle.reader.specs.declared.Fields.{Fields}
 use Rattle.reader.specs.declared.Fields.TheVariants.{Without}
 use Rattle.reader.specs.declared.Line.{Line}
-use Rattle.reader.specs.declared.Line.TheVariants.{Read, Refused}
 use Rattle.reader.specs.declared.Reader.{Reader}
 use Rattle.reader.specs.declared.Reader.TheVariants.{Letters, Tab, Digits, Broken}
 
@@ -26,23 +22,23 @@ packed x [] = x
 packed x (b ∷ l) = packed (x * 256 + b) l
 
 -- the word of a list whose letters are packed in x
-abbrev pub known : List Entry → ℕ → Spelled
-known [] x = Nothing
-known (e ∷ es) x = when eqb x (packed 0 e.letters) then As e.word else known es x
+abbrev pub known : List Entry → ℕ → Option Word
+known [] x = None
+known (e ∷ es) x = when eqb x (packed 0 e.letters) then Some e.word else known es x
 
 -- the word whose letters are packed in x
-unfoldable pub word_of : ℕ → Spelled
+unfoldable pub word_of : ℕ → Option Word
 word_of x = known words x
 
 -- behind a word and its tab
-unfoldable pub begun : Spelled → Reader
-begun (As w) = Tab w Without
-begun Nothing = Broken
+unfoldable pub begun : Option Word → Reader
+begun (Some w) = Tab w Without
+begun None = Broken
 
 -- behind fields and their tab
 unfoldable pub tabbed : Word → Option Fields → Reader
-tabbed w (some fs) = Tab w fs
-tabbed w none = Broken
+tabbed w (Some fs) = Tab w fs
+tabbed w None = Broken
 
 -- behind one field more and its tab
 unfoldable pub pushed : Word → Fields → ℕ → Reader
@@ -62,14 +58,14 @@ step_of (Digits w fs v) b =
 step_of Broken b = Broken
 
 -- the line that ends where a tab would have stood
-unfoldable pub ended : Reader → Line
-ended (Tab w fs) = Read w fs
-ended (Letters x) = Refused
-ended (Digits w fs v) = Refused
-ended Broken = Refused
+unfoldable pub ended : Reader → Option Line
+ended (Tab w fs) = Some (record { word = w; fields = fs })
+ended (Letters x) = None
+ended (Digits w fs v) = None
+ended Broken = None
 
 -- what the line is at its newline, which ends a piece as a tab does
-unfoldable pub finished : Reader → Line
+unfoldable pub finished : Reader → Option Line
 finished s = ended (step_of s tab)
 
 -- several bytes further on

@@ -1,12 +1,11 @@
 // Reads a transcript line a byte at a time.
 #![tactic(auto)]
 
-ghost use Rattle.std.specs.Prelude.{◌≡◌};
-ghost use Rattle.reader.specs.Line.{digit};
-ghost use Rattle.reader.specs.Reader.{letter, word_of, pushed, step_of, ended, finished, fresh};
+ghost use Rattle.std.specs.Prelude.{◌≡◌, ◌+◌, ◌*◌, ◌^◌, ◌≤◌, MatchOption};
+ghost use Rattle.reader.specs.Reader.{word_of, pushed, step_of, ended, finished, fresh};
 
 // The words of both modes.
-#[derive(Clone, Copy)]
+#[derive(Clone, Copy, PartialEq, Eq, Debug)]
 pub enum Word {
     Roles,
     Lattice,
@@ -28,15 +27,8 @@ pub enum Word {
     Reclear,
 }
 
-// The word that letters spell, if they spell one.
-#[derive(Clone, Copy)]
-pub enum Spelled {
-    As(Word),
-    Nothing,
-}
-
 // The numbers of a line: three at most.
-#[derive(Clone, Copy)]
+#[derive(Clone, Copy, PartialEq, Eq, Debug)]
 pub enum Fields {
     Without,
     One(u64),
@@ -44,15 +36,15 @@ pub enum Fields {
     Three(u64, u64, u64),
 }
 
-// A line that was read, or refusal 10.
-#[derive(Clone, Copy)]
-pub enum Line {
-    Read(Word, Fields),
-    Refused,
+// A line that was read. Where there is none, it gets refusal 10.
+#[derive(Clone, Copy, PartialEq, Eq, Debug)]
+pub struct Line {
+    pub word: Word,
+    pub fields: Fields,
 }
 
 // Where in a line the reader stands.
-#[derive(Clone, Copy)]
+#[derive(Clone, Copy, PartialEq, Eq, Debug)]
 pub enum Reader {
     // In the word: its letters so far, a byte each in one number.
     Letters(u64),
@@ -65,33 +57,34 @@ pub enum Reader {
 }
 
 // The word whose letters are packed in a number, a byte each and the first one highest: `run` is (114 * 256 + 117) * 256 + 110.
-pub fn word_of(letters: u64) -> Spelled
+pub fn word_of(letters: u64) -> Option<Word>
     ensures { result ≡ word_of letters }
 {
     match letters {
-        491495646579 => Spelled::As(Word::Roles),
-        30506450281915237 => Spelled::As(Word::Lattice),
-        418263299685 => Spelled::As(Word::Above),
-        123581013780852 => Spelled::As(Word::Permit),
-        427020345714 => Spelled::As(Word::Clear),
-        465490306412 => Spelled::As(Word::Label),
-        7501166 => Spelled::As(Word::Run),
-        1869636974 => Spelled::As(Word::Open),
-        427021005669 => Spelled::As(Word::Close),
-        495873782388 => Spelled::As(Word::Start),
-        6647396 => Spelled::As(Word::End),
-        7017580640679851109 => Spelled::As(Word::Activate),
-        1685221232 => Spelled::As(Word::Drop),
-        107148485420910 => Spelled::As(Word::Assign),
-        7234295524925990766 => Spelled::As(Word::Deassign),
-        444300619380 => Spelled::As(Word::Grant),
-        125780104276837 => Spelled::As(Word::Revoke),
-        32199625039765874 => Spelled::As(Word::Reclear),
-        _ => Spelled::Nothing,
+        491495646579 => Some(Word::Roles),
+        30506450281915237 => Some(Word::Lattice),
+        418263299685 => Some(Word::Above),
+        123581013780852 => Some(Word::Permit),
+        427020345714 => Some(Word::Clear),
+        465490306412 => Some(Word::Label),
+        7501166 => Some(Word::Run),
+        1869636974 => Some(Word::Open),
+        427021005669 => Some(Word::Close),
+        495873782388 => Some(Word::Start),
+        6647396 => Some(Word::End),
+        7017580640679851109 => Some(Word::Activate),
+        1685221232 => Some(Word::Drop),
+        107148485420910 => Some(Word::Assign),
+        7234295524925990766 => Some(Word::Deassign),
+        444300619380 => Some(Word::Grant),
+        125780104276837 => Some(Word::Revoke),
+        32199625039765874 => Some(Word::Reclear),
+        _ => None,
     }
 }
 
 // The fields with one more behind them; refused when there are three already.
+#[tactic(auto, unfolding(crate::specs::Reader::pushed, crate::specs::Reader::tabbed, crate::specs::Line::behind))]
 pub fn pushed_on(word: Word, fields: Fields, n: u64) -> Reader
     ensures { result ≡ pushed word fields n }
 {
@@ -99,35 +92,15 @@ pub fn pushed_on(word: Word, fields: Fields, n: u64) -> Reader
         Fields::Without => Reader::Tab(word, Fields::One(n)),
         Fields::One(a) => Reader::Tab(word, Fields::Two(a, n)),
         Fields::Two(a, b) => Reader::Tab(word, Fields::Three(a, b, n)),
-        Fields::Three(_, _, _) => Reader::Broken,
+        Fields::Three(..) => Reader::Broken,
     }
 }
 
-// a to z.
-pub fn is_letter(b: u8) -> bool
-    ensures { result ≡ letter b }
+// The number v with the digit d behind it, if it is below 2^64.
+fn with_digit(v: u64, d: u8) -> Option<u64>
+    ensures { MatchOption result (2 ^ 64 ≤ v * 10 + d) (λ n. n ≡ v * 10 + d) }
 {
-    if b < 97 {
-        return false;
-    }
-    b <= 122
-}
-
-// 0 to 9.
-pub fn is_digit(b: u8) -> bool
-    ensures { result ≡ digit b }
-{
-    if b < 48 {
-        return false;
-    }
-    b <= 57
-}
-
-// A byte as a word.
-pub fn wide(b: u8) -> u64
-    ensures { result ≡ b }
-{
-    b as u64
+    v.checked_mul(10)?.checked_add(u64::from(d))
 }
 
 impl Reader {
@@ -139,91 +112,69 @@ impl Reader {
     }
 
     // The reader one byte further on.
+    #[tactic(auto, using(crate::proofs::Stepping::step_laws), unfolding(crate::specs::Reader::begun))]
     pub fn step(self, b: u8) -> Self
         ensures { result ≡ step_of self b }
     {
         match self {
-            Reader::Letters(x) => {
-                if b == 9 {
-                    return match word_of(x) {
-                        Spelled::As(w) => Reader::Tab(w, Fields::Without),
-                        Spelled::Nothing => Reader::Broken,
-                    };
-                }
-                if !is_letter(b) {
-                    return Reader::Broken;
-                }
-                if x < 72057594037927936 {
-                    return Reader::Letters(x * 256 + wide(b));
-                }
-                Reader::Broken
-            }
-            Reader::Tab(w, fs) => {
-                if !is_digit(b) {
-                    return Reader::Broken;
-                }
-                Reader::Digits(w, fs, wide(b) - 48)
-            }
-            Reader::Digits(w, fs, v) => {
-                if b == 9 {
-                    return pushed_on(w, fs, v);
-                }
-                if v == 0 {
-                    return Reader::Broken;
-                }
-                if !is_digit(b) {
-                    return Reader::Broken;
-                }
-                if v < 1844674407370955161 {
-                    return Reader::Digits(w, fs, v * 10 + (wide(b) - 48));
-                }
-                if v == 1844674407370955161 {
-                    if b < 54 {
-                        return Reader::Digits(w, fs, v * 10 + (wide(b) - 48));
-                    }
-                }
-                Reader::Broken
-            }
+            Reader::Letters(x) => match b {
+                b'\t' => match word_of(x) {
+                    Some(w) => Reader::Tab(w, Fields::Without),
+                    None => Reader::Broken,
+                },
+                b'a'..=b'z' if x < 1 << 56 => Reader::Letters(x * 256 + u64::from(b)),
+                _ => Reader::Broken,
+            },
+            Reader::Tab(w, fs) => match b {
+                b'0'..=b'9' => Reader::Digits(w, fs, u64::from(b - b'0')),
+                _ => Reader::Broken,
+            },
+            Reader::Digits(w, fs, v) => match b {
+                b'\t' => pushed_on(w, fs, v),
+                b'0'..=b'9' if 0 < v => match with_digit(v, b - b'0') {
+                    Some(n) => Reader::Digits(w, fs, n),
+                    None => Reader::Broken,
+                },
+                _ => Reader::Broken,
+            },
             Reader::Broken => Reader::Broken,
         }
     }
 
     // Whether no byte of the line has been read.
+    #[tactic(auto, unfolding(crate::specs::Reader::fresh))]
     pub fn is_fresh(self) -> bool
         ensures { result ≡ fresh self }
     {
-        match self {
-            Reader::Letters(x) => x == 0,
-            Reader::Tab(_, _) => false,
-            Reader::Digits(_, _, _) => false,
-            Reader::Broken => false,
-        }
+        matches!(self, Reader::Letters(0))
     }
 
     // The line that ends where a tab would have stood.
-    fn ended(self) -> Line
+    #[tactic(auto, unfolding(crate::specs::Reader::ended))]
+    fn ended(self) -> Option<Line>
         ensures { result ≡ ended self }
     {
         match self {
-            Reader::Tab(w, fs) => Line::Read(w, fs),
-            Reader::Letters(_) => Line::Refused,
-            Reader::Digits(_, _, _) => Line::Refused,
-            Reader::Broken => Line::Refused,
+            Reader::Tab(word, fields) => Some(Line { word, fields }),
+            _ => None,
         }
     }
 
     // What the line is, at its newline. (step is not called here, so that it stands in one loop only and is compiled into it.)
-    pub fn finish(self) -> Line
+    #[tactic(auto, using(crate::proofs::Stepping::step_laws), unfolding(crate::specs::Reader::finished, crate::specs::Reader::ended, crate::specs::Reader::begun))]
+    pub fn finish(self) -> Option<Line>
         ensures { result ≡ finished self }
     {
         match self {
-            Reader::Letters(x) => match word_of(x) {
-                Spelled::As(w) => Line::Read(w, Fields::Without),
-                Spelled::Nothing => Line::Refused,
-            },
-            Reader::Tab(_, _) => Line::Refused,
+            Reader::Letters(x) => {
+                let word = word_of(x)?;
+                Some(Line {
+                    word,
+                    fields: Fields::Without,
+                })
+            }
             Reader::Digits(w, fs, n) => pushed_on(w, fs, n).ended(),
-            Reader::Broken => Line::Refused,
+            Reader::Tab(..) | Reader::Broken => None,
         }
     }
 }

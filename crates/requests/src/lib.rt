@@ -6,49 +6,31 @@ ghost use Rattle.requests.specs.Request;
 ghost use Rattle.requests.specs.Request.{ask};
 ghost use Rattle.requests.specs.Answer.{refusal_number, number_of};
 
-// Why a request, a set-up or a statement is refused.
-#[derive(Clone, Copy)]
+// Why a request, a set-up or a statement is refused, each with its number.
+#[derive(Clone, Copy, PartialEq, Eq, Debug)]
 pub enum Refusal {
-    WrongLength,
-    Unsound,
-    NoImage,
-    BadCode,
-    BadArgument,
-    NoPermission,
-    BadListLength,
-    BadValue,
-    Cycle,
-    BadPair,
-    BadRate,
-    FullCount,
+    WrongLength = 12,
+    Unsound = 13,
+    NoImage = 14,
+    BadCode = 15,
+    BadArgument = 16,
+    NoPermission = 17,
+    BadListLength = 18,
+    BadValue = 19,
+    Cycle = 20,
+    BadPair = 21,
+    BadRate = 22,
+    FullCount = 23,
 }
 
-// What a request comes to.
-#[derive(Clone, Copy)]
-pub enum Answer {
-    Yes,
-    No,
-    Refused(Refusal),
-}
+// What a request comes to: yes or no, or a refusal.
+pub type Answer = Result<bool, Refusal>;
 
 // The number of a refusal.
 pub fn refusal_number(r: Refusal) -> u64
     ensures { result ≡ refusal_number r }
 {
-    match r {
-        Refusal::WrongLength => 12,
-        Refusal::Unsound => 13,
-        Refusal::NoImage => 14,
-        Refusal::BadCode => 15,
-        Refusal::BadArgument => 16,
-        Refusal::NoPermission => 17,
-        Refusal::BadListLength => 18,
-        Refusal::BadValue => 19,
-        Refusal::Cycle => 20,
-        Refusal::BadPair => 21,
-        Refusal::BadRate => 22,
-        Refusal::FullCount => 23,
-    }
+    r as u64
 }
 
 // The number of an answer.
@@ -56,9 +38,8 @@ pub fn number(a: Answer) -> u64
     ensures { result ≡ number_of a }
 {
     match a {
-        Answer::Yes => 1,
-        Answer::No => 0,
-        Answer::Refused(r) => refusal_number(r),
+        Ok(yes) => u64::from(yes),
+        Err(r) => refusal_number(r),
     }
 }
 

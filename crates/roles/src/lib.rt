@@ -1,13 +1,28 @@
 // The role guard: fourteen requests on a lent table.
 #![tactic(auto)]
 
-ghost use Rattle.std.specs.Prelude.{◌≡◌};
-ghost use Rattle.requests.specs.Request.{ask};
-ghost use Rattle.requests.specs.Answer.{number_of};
+ghost use Rattle.std.specs.Prelude.{◌≡◌, MatchResult};
+ghost use Rattle.requests.specs.Request.{Ask, ask, refuse};
+ghost use Rattle.requests.specs.Answer.{refusal_number, number_of};
 ghost use Rattle.rbac.specs.Guard.{role_step, sound_step};
 
 use requests::{Answer, Refusal};
 use table::layout::WORDS;
+
+// Refuses a table of another length, and one that is not sound.
+fn check_sound(t: &[u64]) -> Result<(), Refusal>
+    ensures { (q : Ask) → MatchResult result
+        (λ passed. role_step t.now q ≡ sound_step t.now q)
+        (λ r. role_step t.now q ≡ refuse (refusal_number r) t.now) }
+{
+    if t.len() != WORDS {
+        return Err(Refusal::WrongLength);
+    }
+    if !sound::is_sound(t) {
+        return Err(Refusal::Unsound);
+    }
+    Ok(())
+}
 
 // A role request on a table that is known to be sound: `request` without the soundness test.
 pub fn serve(t: &mut [u64], code: u64, a: u64, b: u64, c: u64) -> Answer
@@ -15,7 +30,7 @@ pub fn serve(t: &mut [u64], code: u64, a: u64, b: u64, c: u64) -> Answer
     ensures table { t.new ≡ (sound_step t.old (ask code a b c)).state }
 {
     if t.len() != WORDS {
-        return Answer::Refused(Refusal::WrongLength);
+        return Err(Refusal::WrongLength);
     }
     if 6 < code {
         return administration::serve(t, code, a, b, c);
@@ -28,12 +43,7 @@ pub fn request(t: &mut [u64], code: u64, a: u64, b: u64, c: u64) -> Answer
     ensures answer { number_of result ≡ (role_step t.old (ask code a b c)).answer }
     ensures table { t.new ≡ (role_step t.old (ask code a b c)).state }
 {
-    if t.len() != WORDS {
-        return Answer::Refused(Refusal::WrongLength);
-    }
-    if !sound::is_sound(t) {
-        return Answer::Refused(Refusal::Unsound);
-    }
+    check_sound(t)?;
     serve(t, code, a, b, c)
 }
 
@@ -41,11 +51,6 @@ pub fn request(t: &mut [u64], code: u64, a: u64, b: u64, c: u64) -> Answer
 pub fn opening(t: &[u64], s: u64, o: u64, x: u64) -> Answer
     ensures { number_of result ≡ (role_step t.now (ask 1 s o x)).answer }
 {
-    if t.len() != WORDS {
-        return Answer::Refused(Refusal::WrongLength);
-    }
-    match sound::is_sound(t) {
-        true => sessions::opening(t, s, o, x),
-        false => Answer::Refused(Refusal::Unsound),
-    }
+    check_sound(t)?;
+    sessions::opening(t, s, o, x)
 }

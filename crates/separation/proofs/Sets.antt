@@ -107,8 +107,8 @@ module _ (S : State) where
   pub sessions_is : all 32 (λ s. sets_fit S 16 (has (S.active s))) ≡ dynamic_sets_hold S
   sessions_is = by_set 32 (λ n s. fewer (mask S (16 + n)) (bound S (16 + n)) (has (S.active s)))
 
-  pub separated_is : separated S ≡ pairs_good S and (static_sets_hold S and dynamic_sets_hold S)
-  separated_is = separated_parts S ∙ sym (and_assoc (static_sets_hold S) _ _) ∙ and_comm _ (pairs_good S)
+  pub separated_is : separated S ≡ (pairs_good S and static_sets_hold S) and dynamic_sets_hold S
+  separated_is = separated_parts S ∙ sym (and_assoc (static_sets_hold S) _ _) ∙ and_comm _ (pairs_good S) ∙ sym (and_assoc (pairs_good S) _ _)
 
 -- ---- on the table of a state
 

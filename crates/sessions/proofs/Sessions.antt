@@ -9,7 +9,7 @@ use Rattle.bits.proofs.Truth.{by_truth, if_true, if_false, is_false, and_intro, 
 use Rattle.requests.specs.Request.{Ask, refuse}
 use Rattle.table.specs.Table.{is_table}
 use Rattle.rbac.specs.Guard.{allowed_sound, changed_sound, sound_step}
-use Rattle.rbac.proofs.Codes.{NoneOf, none_left, code_below}
+use Rattle.rbac.proofs.Codes.{code_below}
 use Rattle.rbac.proofs.Guarding.{sound_step_table, checked_code}
 use Rattle.sessions.specs.Sessions.{session_step}
 
@@ -18,10 +18,9 @@ module _ (t : List ℕ) (q : Ask) where
   unfolding session_step
   session_step_lem l h = if_true _ _ (and_intro (le-leb 1 q.code l) (le-leb q.code 6 h))
 
-  pub session_other : NoneOf 0 6 q.code → session_step t q ≡ refuse 15 t
+  pub session_other : (1 ≤ q.code → q.code ≤ 6 → ⊥) → session_step t q ≡ refuse 15 t
   unfolding session_step
-  session_other none =
-      if_false _ _ (is_false (λ e. none_left 0 6 none (leb-true 1 q.code (and_left _ _ e), leb-true q.code 6 (and_right _ _ e))))
+  session_other none = if_false _ _ (is_false (λ e. none (leb-true 1 q.code (and_left _ _ e)) (leb-true q.code 6 (and_right _ _ e))))
 
   -- on a table a code up to 6 comes to what the role guard answers, also where it is 0
   pub session_below : is_table t ≡ true → q.code ≤ 6 → session_step t q ≡ sound_step t q

@@ -10,7 +10,7 @@ use borrow.Author.Tests.{eqb-true, eqb-false, not-true}
 use Rattle.bits.specs.Words.{◌and◌}
 use Rattle.bits.proofs.Truth.{by_truth, is_false, and_left, and_right, implies_elim, implies_counter}
 use Rattle.bits.proofs.Below.{all_elim, all_counter}
-use Rattle.bits.proofs.Members.{each_elim, each_counter}
+use Rattle.bits.proofs.Membership.{each_elim, each_counter}
 use Rattle.table.specs.Table.{is_table, encode}
 use Rattle.table.proofs.Table.{is_table_lem, table_length_lem}
 use Rattle.sound.proofs.Answers.{shown_sound}

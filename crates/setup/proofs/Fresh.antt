@@ -11,7 +11,7 @@ use Rattle.bits.specs.Sets.{◌without◌}
 use Rattle.bits.proofs.Truth.{clash, is_false, implies_elim}
 use Rattle.bits.proofs.Below.{all_intro, all_elim}
 use Rattle.bits.proofs.Word.{has_zero, without_other}
-use Rattle.bits.proofs.Members.{each_elim}
+use Rattle.bits.proofs.Membership.{each_elim}
 use Rattle.bits.proofs.Tabulate.{length_tabulate, get_d_tabulate}
 use Rattle.table.specs.Sound.{sound, Ruled}
 use Rattle.table.proofs.Sound.{sound_intro}

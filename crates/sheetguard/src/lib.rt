@@ -104,7 +104,7 @@ pub extern "C" fn sheetguard_compare_labels(first: u64, second: u64) -> u64
     ensures { result ≡ compare_labels first second }
 {
     if !are_labels(first, second) {
-        return requests::number(Answer::Refused(Refusal::BadArgument));
+        return requests::number(Err(Refusal::BadArgument));
     }
     let label = Label { number: first };
     label.compare(Label { number: second }).number()
@@ -125,15 +125,15 @@ fn readable(table: &[u64], known: bool) -> Answer
     ensures { number_of result ≡ readable table.now known }
 {
     if table.len() != WORDS {
-        return Answer::Refused(Refusal::WrongLength);
+        return Err(Refusal::WrongLength);
     }
     if !sound::is_sound(table) {
-        return Answer::Refused(Refusal::Unsound);
+        return Err(Refusal::Unsound);
     }
     if !known {
-        return Answer::Refused(Refusal::BadArgument);
+        return Err(Refusal::BadArgument);
     }
-    Answer::Yes
+    Ok(true)
 }
 
 // The masks that the table keeps for session s.
@@ -193,11 +193,7 @@ pub extern "C" fn sheetguard_open_tallied(
         × (tally.new.counts ≡ (open_tallied table.old tally.old.counts session object mode).counts)
         × (table.new ≡ (open_tallied table.old tally.old.counts session object mode).table) }
 {
-    let counts = tally.counts;
-    let next = tally::open(table, counts, session, object, mode);
-    let counted = next.counts;
-    tally.counts = counted;
-    next.answer
+    requests::number(tally::open(table, &mut tally.counts, session, object, mode))
 }
 
 // Each user's charge and their total, at a rate in cents per thousand openings. (A tally in C is its 64 counts.)
@@ -212,12 +208,12 @@ pub extern "C" fn sheetguard_statement(
     ensures charges { charges.new ≡ charges_left counts.now rate charges.old }
     ensures total { total.new ≡ total_left counts.now rate total.old }
 {
-    let statement = tally::statement(*counts, rate);
-    if statement.answer != 1 {
-        return statement.answer;
+    match tally::statement(counts, rate) {
+        Ok(statement) => {
+            charges.copy_from_slice(&statement.charges);
+            *total = statement.total;
+            requests::number(Ok(true))
+        }
+        Err(why) => requests::number(Err(why)),
     }
-    let charged = statement.charges;
-    *charges = charged;
-    *total = statement.total;
-    statement.answer
 }

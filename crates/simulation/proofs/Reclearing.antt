@@ -10,7 +10,7 @@ use Rattle.bits.specs.Words.{◌implies◌, when◌then◌else◌, upd, has, all
 use Rattle.bits.specs.Sets.{each, ◌without◌}
 use Rattle.bits.proofs.Truth.{by_truth, same_truth, if_true, if_false, implies_intro, implies_elim}
 use Rattle.bits.proofs.Below.{all_intro, all_cong}
-use Rattle.bits.proofs.Members.{each_intro, each_elim}
+use Rattle.bits.proofs.Membership.{each_intro, each_elim}
 use Rattle.table.specs.State.{State}
 use Rattle.table.specs.Authority.{authorised}
 use Rattle.table.specs.Changes.{with_assigned}

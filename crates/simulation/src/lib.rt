@@ -21,7 +21,7 @@ pub fn serve_at(t: &mut [u64], words: &[u64], i: usize) -> LabelAnswer
     let n = words.len() / 4;
     if n <= i {
         return LabelAnswer {
-            answer: Answer::Refused(Refusal::BadListLength),
+            answer: Err(Refusal::BadListLength),
             spent: 0,
         };
     }
@@ -56,18 +56,18 @@ pub fn run(
     ensures replies { replies.new ≡ (machine_run t.old clearances.now labels.now words.now replies.old).replies }
 {
     if t.len() != WORDS {
-        return Answer::Refused(Refusal::WrongLength);
+        return Err(Refusal::WrongLength);
     }
     if words.len() % 4 != 0 {
-        return Answer::Refused(Refusal::BadListLength);
+        return Err(Refusal::BadListLength);
     }
     if replies.len() != 2 * (words.len() / 4) {
-        return Answer::Refused(Refusal::BadListLength);
+        return Err(Refusal::BadListLength);
     }
     let answer = image::label_setup(t, clearances, labels);
     if requests::number(answer) != 1 {
         return answer;
     }
     serve_all(t, words, replies);
-    Answer::Yes
+    Ok(true)
 }

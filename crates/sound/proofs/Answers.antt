@@ -1,51 +1,65 @@
 -- What the public functions answer, as their code finds it. Assumes nothing.
-use Prim.Native.Nat.{ℕ, suc, ◌+◌, ◌*◌, ◌≤◌, ◌<◌}
+use Prim.Native.Nat.{ℕ, suc, ◌+◌, ◌*◌, ◌<◌}
 use mathlib.Core.Path.{◌≡◌, sym, ap, ap₂, ◌∙◌}
 use mathlib.Core.Bool.{Bool, true, false}
 use mathlib.Core.List.{List}
-use native.Mathlib.Nat.{zero-add}
-use lib.Dec.{eqb, leb, ltb}
+use native.Mathlib.Numerals.{add-one}
+use lib.Dec.{eqb, leb}
 use lib.ListN.{length, get_or}
-use borrow.Author.Tests.{eq-eqb, eqb-true, leb-true, lt-ltb, le-ltb}
+use borrow.Author.Tests.{leb-true, lt-ltb}
 use Rattle.bits.specs.Words.{◌and◌, ◌implies◌, has, all, subset}
 use Rattle.bits.specs.Sets.{each}
-use Rattle.bits.proofs.Truth.{clash, by_truth, is_false, same_truth, and_intro, and_left, and_right, true_and, false_and, and_false, and_assoc, implies_intro, implies_elim}
-use Rattle.bits.proofs.Below.{all_intro, all_fails, all_cong}
-use Rattle.bits.proofs.Members.{each_cong, subset_pack}
+use Rattle.bits.proofs.Truth.{by_truth, same_truth, and_intro, and_left, and_right, true_and, false_and, and_assoc}
+use Rattle.bits.proofs.Below.{all_intro, all_elim, all_cong}
+use Rattle.bits.proofs.Membership.{each_cong, subset_pack}
 use Rattle.table.specs.State.{State}
 use Rattle.table.specs.Authority.{authorised, may_activate, effective}
 use Rattle.table.specs.Separation.{separated}
-use Rattle.table.specs.Masks.{mask_of}
+use Rattle.table.specs.Masks.{mask_of, masks_true}
 use Rattle.table.specs.Sound.{sound}
-use Rattle.table.specs.Answers.{covered_roles, effective_permissions, openable}
+use Rattle.table.specs.Answers.{authorised_roles, effective_permissions, openable}
 use Rattle.table.specs.Reading.{state}
 use Rattle.table.specs.Table.{table_length, is_table, encode}
 use Rattle.table.proofs.Agree.{Agree, authorised_agree, may_activate_agree, effective_agree, sound_agree}
 use Rattle.table.proofs.Encode.{state_encode, encode_length}
 use Rattle.table.proofs.Separation.{separated_intro}
-use Rattle.table.proofs.Sound.{sound_ruled}
-use Rattle.table.proofs.Table.{is_table_lem, not_table}
-use Rattle.table.proofs.Answers.{covered_roles_are, openable_is}
+use Rattle.table.proofs.Masks.{masks_elim, masks_intro}
+use Rattle.table.proofs.Sound.{sound_ruled, sound_masks}
+use Rattle.table.proofs.Table.{is_table_lem, in_table}
+use Rattle.table.proofs.Answers.{authorised_roles_are, openable_is}
 use Rattle.masks.specs.Answers.{all_masks}
 use Rattle.masks.proofs.Refreshing.{all_masks_of, permissions_are}
 use Rattle.sound.specs.Answers.{is_sound, openings_fit, sessions_fit, pair_fits, sessions_hold, held_within, openings_within, sessions_of, holders_of, sessions_within}
-use Rattle.sound.specs.Tests.{roles_fit}
+use Rattle.sound.specs.Tests.{role_fits, grants_fit, roles_fit, session_fits}
+use Rattle.sound.proofs.Items.{Words, sound_role, sound_roles, sound_held, items_sound}
+use Rattle.sound.proofs.Grants.{sound_grants, each_grant}
 
-module _ (t : List ℕ) where
-  -- an item that a sound state passes, and this one does not
-  pub unsound : {b : Bool} → (sound (state t) ≡ true → b ≡ true) → b ≡ false → false ≡ is_sound t
-  unfolding is_sound
-  unsound k e = sym (and_false (is_table t) (is_false (λ p. clash (k p) e)))
+-- ---- the test, item by item
 
-  pub no_table : (length t ≡ table_length → ⊥) → false ≡ is_sound t
-  unfolding is_sound
-  no_table n = sym (false_and _ (not_table t n))
-
-  -- what is left to ask where the roles are found sound
-  pub found_sound : {b : Bool} → length t ≡ table_length → b ≡ separated (state t) → (separated (state t) ≡ true → sound (state t) ≡ true) → b ≡ is_sound t
-  unfolding is_sound
-  found_sound e p k =
-      p ∙ same_truth (λ d. and_intro (is_table_lem t e) (k d)) (λ d. separated_intro (state t) (sound_ruled (state t) (and_right (is_table t) _ d)).is_separated)
+pub items_are : (S : State) → Words S
+    → (((all 64 (role_fits S) and all 8 (grants_fit S)) and masks_true S) and all 32 (λ s. session_fits S s (S.masks s))) and separated S ≡ sound S
+unfolding session_fits held_within
+items_are S w =
+    same_truth
+    (λ e.
+    let sessions = and_left _ (separated S) e in
+    let masks = and_left _ (all 32 (λ s. session_fits S s (S.masks s))) sessions in
+    let grants = and_left _ (masks_true S) masks in
+    items_sound S w
+    (all_elim _ 64 (and_left _ (all 8 (grants_fit S)) grants))
+    (λ x o hx ho. each_grant S x (all_elim _ 8 (and_right (all 64 (role_fits S)) _ grants) x hx) o ho)
+    (masks_elim S (and_right (all 64 (role_fits S) and all 8 (grants_fit S)) _ masks))
+    (all_elim _ 32 (and_right ((all 64 (role_fits S) and all 8 (grants_fit S)) and masks_true S) _ sessions))
+    (and_right _ (separated S) e))
+    (λ e.
+    let f = sound_ruled S e in
+    let m = sound_masks S e in
+    and_intro (and_intro (and_intro (and_intro
+    (all_intro _ 64 (sound_role S f))
+    (all_intro _ 8 (λ x h. sound_grants S x f (w.granted_word x) h)))
+    (masks_intro S m))
+    (all_intro _ 32 (λ s h. and_intro (sound_roles S f s h) (all_intro _ 8 (λ x l. sound_held S f m s x h l)))))
+    (separated_intro S f.is_separated))
 
 -- what the test answers of a table
 pub sound_state : (t : List ℕ) → is_sound t ≡ true → sound (state t) ≡ true
@@ -78,87 +92,34 @@ module _ (t : List ℕ) where
   unfolding openings_within
   within_are s masks e h = sym (true_and _ (is_table_lem t e) ∙ true_and _ (lt-ltb s 32 h))
 
-  -- as the code asks it, from place 0 on
-  pub within_from : (s : ℕ) (masks : List ℕ) → length t ≡ table_length → s < 32 → held_within (state t) s (λ x. get_or masks (0 + x) 0) ≡ openings_within t s masks
-  unfolding held_within
-  within_from s masks e h = all_cong 8 (λ x k. ap (λ (i : ℕ). subset ((state t).holds s x) (get_or masks i 0)) (zero-add x)) ∙ within_are s masks e h
-
-  pub within_short : (s : ℕ) (masks : List ℕ) → (length t ≡ table_length → ⊥) → false ≡ openings_within t s masks
-  unfolding openings_within
-  within_short s masks n = sym (false_and _ (not_table t n))
-
-  pub within_past : (s : ℕ) (masks : List ℕ) → 32 ≤ s → false ≡ openings_within t s masks
-  unfolding openings_within
-  within_past s masks h = sym (and_false (is_table t) (false_and _ (le-ltb s 32 h)))
-
-  same_roles : (u s roles : ℕ) → length t ≡ table_length → roles ≡ covered_roles t ((state t).assigned u)
-      → subset ((state t).active s) roles ≡ each ((state t).active s) (λ r. authorised (state t) u r)
-  unfolding authorised
-  same_roles u s roles e r =
-      ap (λ (w : ℕ). subset ((state t).active s) w) (r ∙ sym (covered_roles_are t ((state t).assigned u) (is_table_lem t e)))
-      ∙ subset_pack ((state t).active s) (authorised (state t) u)
-
   pub sessions_are : (u : ℕ) → length t ≡ table_length → u < 64 → sessions_fit (state t) u ≡ sessions_of t u
   unfolding sessions_of
   sessions_are u e h = sym (true_and _ (is_table_lem t e) ∙ true_and _ (lt-ltb u 64 h))
 
   -- the sessions of u, by the authorised roles of u
-  pub sessions_fail : (u s roles : ℕ) → length t ≡ table_length → u < 64 → s < 32 → roles ≡ covered_roles t ((state t).assigned u) → (state t).owner s ≡ suc u
-      → subset ((state t).active s) roles ≡ false → false ≡ sessions_of t u
+  pub sessions_by : (u : ℕ) {roles : ℕ} → length t ≡ table_length → u < 64 → roles ≡ authorised_roles t u
+      → all 32 (λ s. eqb ((state t).owner s) (u + 1) implies subset ((state t).active s) roles) ≡ sessions_fit (state t) u
   unfolding sessions_fit
-  sessions_fail u s roles e hu hs r o k =
-      sym (all_fails _ 32 s hs (is_false (λ p.
-      clash (same_roles u s roles e r ∙ implies_elim _ _ p (eq-eqb ((state t).owner s) (suc u) o)) k)))
-      ∙ sessions_are u e hu
-
-  pub sessions_hold_lem : (u roles : ℕ) → length t ≡ table_length → u < 64 → roles ≡ covered_roles t ((state t).assigned u)
-      → ((s : ℕ) → s < 32 → (state t).owner s ≡ suc u → subset ((state t).active s) roles ≡ true) → true ≡ sessions_of t u
-  unfolding sessions_fit
-  sessions_hold_lem u roles e hu r k =
-      sym (all_intro _ 32 (λ s hs. implies_intro _ _ (λ o. sym (same_roles u s roles e r) ∙ k s hs (eqb-true ((state t).owner s) (suc u) o))))
-      ∙ sessions_are u e hu
-
-  pub sessions_short : (u : ℕ) → (length t ≡ table_length → ⊥) → false ≡ sessions_of t u
-  unfolding sessions_of
-  sessions_short u n = sym (false_and _ (not_table t n))
-
-  pub sessions_past : (u : ℕ) → 64 ≤ u → false ≡ sessions_of t u
-  unfolding sessions_of
-  sessions_past u h = sym (and_false (is_table t) (false_and _ (le-ltb u 64 h)))
+  sessions_by u e h r =
+      let S = state t in
+      all_cong 32 (λ s hs. ap₂ (λ (n w : ℕ). eqb (S.owner s) n implies subset (S.active s) w) (add-one u) (r ∙ sym (authorised_roles_are t u (in_table t u 64 e h)))
+      ∙ ap (λ (b : Bool). eqb (S.owner s) (suc u) implies b) (subset_pack (S.active s) (authorised S u)))
 
   pub holders_are : (x o : ℕ) → length t ≡ table_length → x < 8 → o < 64 → pair_fits (state t) x o ≡ holders_of t x o
   unfolding holders_of
   holders_are x o e hx ho = sym (true_and _ (is_table_lem t e) ∙ true_and _ (lt-ltb x 8 hx) ∙ true_and _ (lt-ltb o 64 ho))
 
-  pub holders_fail : (x o s : ℕ) → length t ≡ table_length → x < 8 → o < 64 → s < 32 → has ((state t).holds s x) o ≡ true
-      → openable t s x o ≡ false → false ≡ holders_of t x o
+  -- the sessions that hold (x, o), by what the table says is effective
+  pub pair_by : (x o : ℕ) → length t ≡ table_length → x < 8 → o < 64
+      → all 32 (λ s. has ((state t).holds s x) o implies openable t s x o) ≡ pair_fits (state t) x o
   unfolding pair_fits
-  holders_fail x o s e hx ho hs m k =
-      sym (all_fails _ 32 s hs (is_false (λ p. clash (sym (openable_is t s x o e hs hx ho) ∙ implies_elim _ _ p m) k))) ∙ holders_are x o e hx ho
-
-  pub holders_hold : (x o : ℕ) → length t ≡ table_length → x < 8 → o < 64
-      → ((s : ℕ) → s < 32 → has ((state t).holds s x) o ≡ true → openable t s x o ≡ true) → true ≡ holders_of t x o
-  unfolding pair_fits
-  holders_hold x o e hx ho k =
-      sym (all_intro _ 32 (λ s hs. implies_intro _ _ (λ m. openable_is t s x o e hs hx ho ∙ k s hs m))) ∙ holders_are x o e hx ho
-
-  pub holders_short : (x o : ℕ) → (length t ≡ table_length → ⊥) → false ≡ holders_of t x o
-  unfolding holders_of
-  holders_short x o n = sym (false_and _ (not_table t n))
-
-  pub holders_past_mode : (x o : ℕ) → 8 ≤ x → false ≡ holders_of t x o
-  unfolding holders_of
-  holders_past_mode x o h = sym (and_false (is_table t) (false_and _ (le-ltb x 8 h)))
-
-  pub holders_past_object : (x o : ℕ) → 64 ≤ o → false ≡ holders_of t x o
-  unfolding holders_of
-  holders_past_object x o h = sym (and_false (is_table t) (and_false (ltb x 8) (false_and _ (le-ltb o 64 h))))
+  pair_by x o e hx ho = all_cong 32 (λ s hs. ap (λ (b : Bool). has ((state t).holds s x) o implies b) (sym (openable_is t s x o e hs hx ho)))
 
 -- ---- all sessions, one by one
 
 pub sessions_within_are : (t masks : List ℕ) → length t ≡ table_length
-    → all 32 (λ s. roles_fit (state t) s and held_within (state t) s (λ x. get_or masks (8 * s + x) 0)) ≡ sessions_within t masks
-unfolding roles_fit sessions_within
+    → all 32 (λ s. session_fits (state t) s (λ x. get_or masks (8 * s + x) 0)) ≡ sessions_within t masks
+unfolding roles_fit session_fits sessions_within
 sessions_within_are t masks e = all_cong 32 (λ s h. and_assoc (leb ((state t).owner s) 64) _ _) ∙ sym (true_and _ (is_table_lem t e))
 
 -- ---- on the table of a state

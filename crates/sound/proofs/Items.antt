@@ -8,8 +8,9 @@ use borrow.Author.Tests.{eqb-true, eqb-false, eq-eqb, ne_eqb, leb-true, le-leb, 
 use Rattle.bits.specs.Words.{◌or◌, has, subset, pack, ◌with◌}
 use Rattle.bits.specs.Sets.{some, lowest}
 use Rattle.bits.proofs.Truth.{clash, by_truth, is_false, same_truth, not_intro, and_intro, and_left, and_right, true_and, false_and, or_left, or_right, or_elim}
+use Rattle.bits.proofs.Below.{all_elim}
 use Rattle.bits.proofs.Word.{has_pack, has_with, with_lt, none_in, same_members}
-use Rattle.bits.proofs.Members.{not_empty, each_intro, each_elim, each_cong, subset_intro, subset_elim, subset_pack}
+use Rattle.bits.proofs.Membership.{not_empty, each_intro, each_elim, each_cong, subset_intro, subset_elim, subset_pack}
 use Rattle.bits.proofs.Walk.{lowest_lt, lowest_in}
 use Rattle.closure.proofs.Fixed.{Fixed, step, fixed_own_clear, fixed_reached, fixed_reaches, fixed_one_way, reached_fixed}
 use Rattle.table.specs.State.{State}
@@ -24,7 +25,8 @@ use Rattle.table.proofs.Separation.{separated_elim}
 use Rattle.table.proofs.Masks.{mask_has}
 use Rattle.table.proofs.Keeps.{no_roles_none_effective}
 use Rattle.table.proofs.Sound.{sound_intro}
-use Rattle.sound.specs.Tests.{role_fits, grant_fits, roles_fit}
+use Rattle.sound.specs.Answers.{held_within}
+use Rattle.sound.specs.Tests.{role_fits, grant_fits, roles_fit, session_fits}
 
 -- the words of a state that a table shows are words
 pub record Words (S : State) : Type 0 where
@@ -100,16 +102,19 @@ module _ (S : State) (f : Ruled S) where
 
 -- ---- a state that passes all is sound
 
--- session s fits: its roles, and what it holds
-pub record SessionFits (S : State) (s : ℕ) : Type 0 where
-  pub roles_fit : roles_fit S s ≡ true
-  pub held_within : (x : ℕ) → x < 8 → subset (S.holds s x) (S.masks s x) ≡ true
-
 module _ (S : State) (w : Words S)
     (by-role : (r : ℕ) → r < 64 → role_fits S r ≡ true)
     (by_grant : (x o : ℕ) → x < 8 → o < 64 → grant_fits S x o ≡ true)
     (by_mask : MasksTrue S)
-    (by-session : (s : ℕ) → s < 32 → SessionFits S s) where
+    (by-session : (s : ℕ) → s < 32 → session_fits S s (S.masks s) ≡ true) where
+  by-roles : (s : ℕ) → s < 32 → roles_fit S s ≡ true
+  unfolding session_fits
+  by-roles s h = and_left _ _ (by-session s h)
+
+  by_holding : (s x : ℕ) → s < 32 → x < 8 → subset (S.holds s x) (S.masks s x) ≡ true
+  unfolding session_fits held_within
+  by_holding s x hs hx = all_elim _ 8 (and_right (roles_fit S s) _ (by-session s hs)) x hx
+
   is_fixed : Fixed (links S.direct) S.juniors
   unfolding role_fits
   is_fixed = record {
@@ -141,7 +146,7 @@ module _ (S : State) (w : Words S)
 
   may_activate_lem : (s r : ℕ) → s < 32 → r < 64 → has (S.active s) r ≡ true → may_activate S s r ≡ true
   unfolding roles_fit
-  may_activate_lem s r hs hr m = each_elim (S.active s) _ (and_right _ _ (by-session s hs).roles_fit) r hr m
+  may_activate_lem s r hs hr m = each_elim (S.active s) _ (and_right _ _ (by-roles s hs)) r hr m
 
   no_roles : (s : ℕ) → s < 32 → idle S s ≡ true → S.active s ≡ 0
   no_roles s h i =
@@ -150,7 +155,7 @@ module _ (S : State) (w : Words S)
   reach : (s x o : ℕ) → s < 32 → x < 8 → o < 64 → has (S.holds s x) o ≡ true → effective S s x o ≡ true
   reach s x o hs hx ho m =
       sym (ap (λ (v : ℕ). has v o) (by_mask s x hs hx) ∙ mask_has S s x o ho)
-      ∙ subset_elim (S.holds s x) (S.masks s x) ((by-session s hs).held_within x hx) o ho m
+      ∙ subset_elim (S.holds s x) (S.masks s x) (by_holding s x hs hx) o ho m
 
   no_openings : (s x : ℕ) → s < 32 → x < 8 → idle S s ≡ true → S.holds s x ≡ 0
   no_openings s x hs hx i =
@@ -165,7 +170,7 @@ module _ (S : State) (w : Words S)
         is_transitive = linked_transitive is_linked;
         is_antisymmetric = one_way;
         grants_permitted = λ x o r hx ho hr m. permits x o r hx ho m;
-        owners_known = λ s h. leb-true (S.owner s) 64 (and_left _ _ (by-session s h).roles_fit);
+        owners_known = λ s h. leb-true (S.owner s) 64 (and_left _ _ (by-roles s h));
         idle_no_roles = no_roles;
         idle_no_openings = no_openings;
         active_authorised = may_activate_lem;

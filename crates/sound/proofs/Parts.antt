@@ -9,7 +9,7 @@ use Rattle.bits.specs.Sets.{each, ◌without◌}
 use Rattle.bits.proofs.Truth.{by_truth, same_truth, and_intro, and_left, and_right, or_left, false_or, implies_intro, implies_elim}
 use Rattle.bits.proofs.Below.{all_intro, all_elim}
 use Rattle.bits.proofs.Word.{without_old, without_none, without_same}
-use Rattle.bits.proofs.Members.{each_intro, each_elim}
+use Rattle.bits.proofs.Membership.{each_intro, each_elim}
 use Rattle.table.specs.State.{State}
 use Rattle.table.specs.Authority.{senior, may_activate}
 use Rattle.table.specs.Changes.{with_assigned, with_granted, with_active, with_direct}

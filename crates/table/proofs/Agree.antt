@@ -12,7 +12,7 @@ use Rattle.bits.specs.Words.{◌and◌, upd, has}
 use Rattle.bits.specs.Sets.{some}
 use Rattle.bits.proofs.Truth.{by_truth, same_truth}
 use Rattle.bits.proofs.Word.{pack_cong}
-use Rattle.bits.proofs.Members.{some_cong}
+use Rattle.bits.proofs.Membership.{some_cong}
 use Rattle.bits.proofs.Tabulate.{tabulate_cong}
 use Rattle.closure.specs.Closure.{closure}
 use Rattle.table.specs.State.{State}

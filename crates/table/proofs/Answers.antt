@@ -11,7 +11,7 @@ use Rattle.bits.specs.Words.{◌and◌, when◌then◌else◌, has, all, subset,
 use Rattle.bits.specs.Sets.{each, overlap}
 use Rattle.bits.proofs.Truth.{clash, is_false, and_intro, and_left, and_right, true_and, false_and, and_false, if_true, if_false}
 use Rattle.bits.proofs.Word.{has_zero, has_all, pack_cong, pack_none}
-use Rattle.bits.proofs.Members.{subset_pack, overlap_elim}
+use Rattle.bits.proofs.Membership.{subset_pack, overlap_elim}
 use Rattle.table.specs.State.{State}
 use Rattle.table.specs.Authority.{permission, covers, authorised, may_activate, effective}
 use Rattle.table.specs.Reading.{word, state}
@@ -22,10 +22,10 @@ use Rattle.table.proofs.Table.{is_table_lem, table_length_lem}
 use Rattle.bits.proofs.Tabulate.{length_tabulate, get_d_tabulate, tabulate_cong}
 
 -- the permissions of mode x that are granted to the roles, where these are the active roles and their juniors
-pub granted_effective : (S : State) (s x roles : ℕ) → roles ≡ pack 64 (covers S (S.active s))
-    → pack 64 (λ o. permission S x o and overlap (S.granted x o) roles) ≡ pack 64 (effective S s x)
-granted_effective S s x roles e =
-    pack_cong 64 (λ o h. ap (λ (w : ℕ). permission S x o and overlap (S.granted x o) w) e ∙ sym (effective_is S s x o))
+pub granted_effective : {w : ℕ} (S : State) (s x roles : ℕ) → roles ≡ pack 64 (covers S (S.active s))
+    → w ≡ pack 64 (λ o. permission S x o and overlap (S.granted x o) roles) → w ≡ pack 64 (effective S s x)
+granted_effective S s x roles e k =
+    k ∙ pack_cong 64 (λ o h. ap (λ (w : ℕ). permission S x o and overlap (S.granted x o) w) e ∙ sym (effective_is S s x o))
 
 -- to no role nothing is granted
 pub granted_none : (S : State) (x roles : ℕ) → roles ≡ 0 → 0 ≡ pack 64 (λ o. permission S x o and overlap (S.granted x o) roles)

@@ -9,7 +9,7 @@ use Rattle.bits.specs.Words.{◌and◌, upd, has}
 use Rattle.bits.specs.Sets.{some}
 use Rattle.bits.proofs.Truth.{clash, by_truth, is_false, same_truth, and_intro, and_left, and_right}
 use Rattle.bits.proofs.Word.{has_zero, pack_cong, pack_none}
-use Rattle.bits.proofs.Members.{not_empty}
+use Rattle.bits.proofs.Membership.{not_empty}
 use Rattle.table.specs.State.{State}
 use Rattle.table.specs.Authority.{senior, permission, idle, user, covers, authorised, may_activate, effective}
 use Rattle.table.specs.Changes.{set_direct, with_assigned, with_granted, with_owner, with_active, with_holds, with_set}

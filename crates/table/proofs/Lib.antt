@@ -10,5 +10,6 @@ pub mod Keeps
 pub mod Table
 pub mod Encode
 pub mod Answers
+pub mod Written
 pub mod Gathering
 pub mod Overlaying

@@ -7,7 +7,7 @@ use borrow.Author.Tests.{eqb-true, eq-eqb, leb-true, le-leb}
 use Rattle.bits.specs.Words.{◌and◌, all}
 use Rattle.bits.proofs.Truth.{and_intro, and_left, and_right, implies_intro, implies_elim}
 use Rattle.bits.proofs.Below.{all_intro, all_elim}
-use Rattle.bits.proofs.Members.{each_intro, each_elim}
+use Rattle.bits.proofs.Membership.{each_intro, each_elim}
 use Rattle.table.specs.State.{State}
 use Rattle.table.specs.Authority.{senior, idle, covers, authorised, may_activate, effective}
 use Rattle.table.specs.Changes.{set_sets, set_masks}

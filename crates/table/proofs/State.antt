@@ -8,7 +8,7 @@ use Rattle.bits.specs.Words.{◌and◌, has, pack}
 use Rattle.bits.specs.Sets.{overlap}
 use Rattle.bits.proofs.Truth.{same_truth, and_intro, and_left, and_right, true_and, false_and}
 use Rattle.bits.proofs.Word.{has_pack}
-use Rattle.bits.proofs.Members.{Some, some_intro, some_elim, overlap_intro, overlap_elim}
+use Rattle.bits.proofs.Membership.{Some, some_intro, some_elim, overlap_intro, overlap_elim}
 use Rattle.table.specs.State.{State}
 use Rattle.table.specs.Authority.{senior, permission, idle, user, covers, authorised, may_activate, effective, Authorised, Effective}
 

@@ -15,15 +15,11 @@ ghost use Rattle.table.specs.Answers.{covered_roles, senior_roles, authorised_ro
 use layout::{ACTIVE, ASSIGNED, GRANTED, OWNER, PERMITTED, WORDS};
 
 // The roles and all their juniors.
-fn juniors_of(t: &[u64], roles: u64) -> u64
-    requires { length t.now ≡ table_length }
+fn juniors_of(t: &[u64; WORDS], roles: u64) -> u64
     ensures { result ≡ pack 64 (covers (state t.now) roles) }
 {
-    let mut all: u64 = 0;
-    let mut left = roles;
-    while left != 0 {
-        let role = bits::lowest(left);
-        left = bits::rest(left);
+    let mut all = 0;
+    for role in bits::Members::of(roles) {
         all = bits::join(all, t[role]);
     }
     all
@@ -33,36 +29,33 @@ fn juniors_of(t: &[u64], roles: u64) -> u64
 pub fn covered_roles(t: &[u64], roles: u64) -> u64
     ensures { result ≡ covered_roles t.now roles }
 {
-    if t.len() != WORDS {
+    let Some(table) = t.as_array::<WORDS>() else {
         return 0;
-    }
-    juniors_of(t, roles)
+    };
+    juniors_of(table, roles)
 }
 
 // The authorised roles of user u; none where there is no such user.
 pub fn authorised_roles(t: &[u64], u: usize) -> u64
     ensures { result ≡ authorised_roles t.now u }
 {
-    if t.len() != WORDS {
+    let Some(table) = t.as_array::<WORDS>() else {
         return 0;
-    }
+    };
     if 63 < u {
         return 0;
     }
-    juniors_of(t, t[ASSIGNED + u])
+    juniors_of(table, table[ASSIGNED + u])
 }
 
 // The places of those of the 64 words from the place at on that have a member of the set, from the last word down.
-fn meeting(t: &[u64], at: usize, set: u64) -> u64
-    requires { (length t.now ≡ table_length) × (at + 64 ≤ table_length) }
+fn meeting(t: &[u64; WORDS], at: usize, set: u64) -> u64
+    requires { at + 64 ≤ table_length }
     ensures { result ≡ pack 64 (λ i. overlap (word t.now (at + i)) set) }
 {
-    let mut found: u64 = 0;
-    for k in 0..64 {
-        found = found + found;
-        if bits::overlap(t[at + (63 - k)], set) {
-            found = found + 1;
-        }
+    let mut found = 0;
+    for i in (0..64).rev() {
+        found = 2 * found + u64::from(bits::overlap(t[at + i], set));
     }
     found
 }
@@ -71,22 +64,19 @@ fn meeting(t: &[u64], at: usize, set: u64) -> u64
 pub fn senior_roles(t: &[u64], roles: u64) -> u64
     ensures { result ≡ senior_roles t.now roles }
 {
-    if t.len() != WORDS {
+    let Some(table) = t.as_array::<WORDS>() else {
         return 0;
-    }
-    meeting(t, 0, roles)
+    };
+    meeting(table, 0, roles)
 }
 
 // Those of the objects whose permission of mode x is granted to one of the roles.
-fn granted_among(t: &[u64], objects: u64, roles: u64, x: usize) -> u64
-    requires { (length t.now ≡ table_length) × (x < 8) }
+fn granted_among(t: &[u64; WORDS], objects: u64, roles: u64, x: usize) -> u64
+    requires { x < 8 }
     ensures { result ≡ pack 64 (λ o. has objects o and overlap ((state t.now).granted x o) roles) }
 {
-    let mut found: u64 = 0;
-    let mut left = objects;
-    while left != 0 {
-        let o = bits::lowest(left);
-        left = bits::rest(left);
+    let mut found = 0;
+    for o in bits::Members::of(objects) {
         if bits::overlap(t[GRANTED + 64 * x + o], roles) {
             found = bits::with(found, o);
         }
@@ -96,8 +86,8 @@ fn granted_among(t: &[u64], objects: u64, roles: u64, x: usize) -> u64
 
 // The permissions of mode x that are granted to one of the roles. (Where all objects are permissions, as in a label table, going
 // straight through them takes half the time of the walk over members.)
-fn granted_objects(t: &[u64], roles: u64, x: usize) -> u64
-    requires { (length t.now ≡ table_length) × (x < 8) }
+fn granted_objects(t: &[u64; WORDS], roles: u64, x: usize) -> u64
+    requires { x < 8 }
     ensures { result ≡ pack 64 (λ o. permission (state t.now) x o and overlap ((state t.now).granted x o) roles) }
 {
     if roles == 0 {
@@ -114,80 +104,53 @@ fn granted_objects(t: &[u64], roles: u64, x: usize) -> u64
 pub fn effective_permissions(t: &[u64], s: usize) -> [u64; 8]
     ensures { result ≡ effective_permissions t.now s }
 {
-    if t.len() != WORDS {
+    let Some(table) = t.as_array::<WORDS>() else {
         return [0; 8];
-    }
+    };
     if 31 < s {
         return [0; 8];
     }
-    let roles = juniors_of(t, t[ACTIVE + s]);
-    let mut masks = [0; 8];
-    for x in 0..8 {
-        masks[x] = granted_objects(t, roles, x);
-    }
-    masks
+    let roles = juniors_of(table, table[ACTIVE + s]);
+    std::array::from_fn(|x| granted_objects(table, roles, x))
 }
 
 // Whether one of the granted roles is one of the roles or a junior of one.
-fn is_covered(t: &[u64], roles: u64, granted: u64) -> bool
-    requires { length t.now ≡ table_length }
+fn is_covered(t: &[u64; WORDS], roles: u64, granted: u64) -> bool
     ensures { result ≡ some roles (λ r. overlap granted ((state t.now).juniors r)) }
 {
-    let mut left = roles;
-    while left != 0 {
-        let role = bits::lowest(left);
-        left = bits::rest(left);
-        if bits::overlap(granted, t[role]) {
-            return true;
-        }
-    }
-    false
+    bits::Members::of(roles).any(|role| bits::overlap(granted, t[role]))
 }
 
 // Whether (x, o) is effective for session s.
 pub fn is_effective(t: &[u64], s: usize, x: usize, o: usize) -> bool
     ensures { result ≡ openable t.now s x o }
 {
-    if t.len() != WORDS {
+    let Some(table) = t.as_array::<WORDS>() else {
+        return false;
+    };
+    if 31 < s || 7 < x || 63 < o {
         return false;
     }
-    if 31 < s {
-        return false;
-    }
-    if 7 < x {
-        return false;
-    }
-    if 63 < o {
-        return false;
-    }
-    if !bits::has(t[PERMITTED + x], o) {
-        return false;
-    }
-    is_covered(t, t[ACTIVE + s], t[GRANTED + 64 * x + o])
+    bits::has(table[PERMITTED + x], o)
+        && is_covered(table, table[ACTIVE + s], table[GRANTED + 64 * x + o])
 }
 
 // Whether role r is authorised for the user of session s.
 pub fn may_activate(t: &[u64], s: usize, r: usize) -> bool
     ensures { result ≡ activatable t.now s r }
 {
-    if t.len() != WORDS {
+    let Some(table) = t.as_array::<WORDS>() else {
+        return false;
+    };
+    if 31 < s || 63 < r {
         return false;
     }
-    if 31 < s {
+    let owner = table[OWNER + s];
+    if owner == 0 || 64 < owner {
         return false;
     }
-    if 63 < r {
-        return false;
-    }
-    let owner = t[OWNER + s];
-    if 64 < owner {
-        return false;
-    }
-    if owner == 0 {
-        return false;
-    }
-    let user = (owner - 1) as usize;
-    bits::has(juniors_of(t, t[ASSIGNED + user]), r)
+    let user = owner as usize - 1;
+    bits::has(juniors_of(table, table[ASSIGNED + user]), r)
 }
 
 // Whether the n words of the table from the place at on are 0; no, where it has no such words.
@@ -214,12 +177,9 @@ pub fn words_empty(t: &[u64], at: usize, n: usize) -> bool
 pub fn overlay(t: &mut [u64], at: usize, words: &[u64])
     ensures { t.new ≡ Answers.overlay t.old at words.now }
 {
-    let mut i = at;
-    let mut k = 0;
-    while i < t.len() && k < words.len() {
-        t[i] = words[k];
-        i += 1;
-        k += 1;
+    if at < t.len() {
+        let n = words.len().min(t.len() - at);
+        t[at..at + n].copy_from_slice(&words[..n]);
     }
 }
 
@@ -227,9 +187,7 @@ pub fn overlay(t: &mut [u64], at: usize, words: &[u64])
 pub fn clear_from(t: &mut [u64], at: usize)
     ensures { t.new ≡ cleared_from t.old at }
 {
-    let mut i = at;
-    while i < t.len() {
-        t[i] = 0;
-        i += 1;
+    if at < t.len() {
+        t[at..].fill(0);
     }
 }

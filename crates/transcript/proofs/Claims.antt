@@ -7,6 +7,7 @@ use mathlib.Core.List.Memᴰ
 use mathlib.Core.List.{List, [], ◌∷◌, ◌++◌, append_assoc, Memᴰ}
 use native.Mathlib.Omega.{arith}
 use lib.ListN.{drop}
+use Rattle.std.specs.Prelude.{Option}
 use Rattle.bits.specs.Words.{tabulate}
 use Rattle.table.specs.Table.{table_length, is_table}
 use Rattle.table.proofs.Table.{is_table_lem}
@@ -16,13 +17,15 @@ use Rattle.reader.specs.declared.Reader.TheVariants.{Letters}
 use Rattle.reader.proofs.Resume.{steps_none}
 use Rattle.reader.specs.declared.Line.{Line}
 use Rattle.output.specs.Text.{header}
-use Rattle.ledger.specs.Store.{Store, with_table}
+use Rattle.entries.specs.declared.Phase.TheVariants.{Opening}
+use Rattle.ledger.specs.Store.{Store, store, with_table}
 use Rattle.ledger.specs.Step.{guarded, unguarded, step}
 use Rattle.ledger.specs.Claims.{StoreSound, shows, Proper}
 use Rattle.ledger.proofs.Claims.{opening_sound, stays_sound}
 use Rattle.ledger.proofs.Showing.{labels_intro, line_shows}
 use Rattle.ledger.proofs.Contents.{SameIn, line_matches}
-use Rattle.transcript.specs.Stream.{Standing, standing, started, after, emitted, closing, serving}
+use Rattle.transcript.specs.declared.Progress.{Progress}
+use Rattle.transcript.specs.Stream.{Standing, started, after, emitted, closing, serving}
 use Rattle.transcript.specs.Document.{Result, lines_of, results, rows, blank, replies, output}
 use Rattle.transcript.specs.Claims.{begun, OutputIs, Calls, none, call, GetsOn, BlocksDoNotMatter, NeverShown, SoundForGood}
 use Rattle.transcript.proofs.Serving.{not_full, serving_reads}
@@ -44,11 +47,11 @@ unfolding blank
 blank_sound table = opening_sound table
 
 -- what the program starts from
-pub begun_is : {table juniors permissions clearances labels : List ℕ} → table ≡ zeros → juniors ≡ tabulate 64 (λ r. 0)
+pub begun_is : {p : Progress} {table juniors permissions clearances labels : List ℕ} → p ≡ started → table ≡ zeros → juniors ≡ tabulate 64 (λ r. 0)
     → permissions ≡ tabulate 8 (λ x. 0) → clearances ≡ tabulate 64 (λ u. 0) → labels ≡ tabulate 64 (λ o. 0)
-    → standing started table juniors permissions clearances labels ≡ begun zeros
+    → record { kept = store Opening table juniors permissions clearances labels; number = p.number; reader = p.reader } ≡ begun zeros
 unfolding blank
-begun_is t j p c l = rw (t, j, p, c, l)
+begun_is s t j p c l = rw (s, t, j, p, c, l)
 
 -- zeros are labels
 zeros_labels : are_labels (tabulate 64 (λ i. 0)) ≡ true
@@ -69,7 +72,7 @@ blank_proper = record {
 -- ---- the output
 
 -- lines show the same of two stores that differ in the old contents of the table alone
-results_same : (d : Store) (u : List ℕ) (ls : List Line) → SameIn d.phase d.table u → results d ls ≡ results (with_table d u) ls
+results_same : (d : Store) (u : List ℕ) (ls : List (Option Line)) → SameIn d.phase d.table u → results d ls ≡ results (with_table d u) ls
 unfolding results
 results_same d u [] h = refl
 results_same d u (l ∷ ls) h =
@@ -111,7 +114,7 @@ blocks_do_not_matter table l written q h c =
 
 -- ---- what is shown, and what is sound
 
-results_show : (d : Store) (ls : List Line) (r : Result) → StoreSound d → Proper d → Memᴰ r (results d ls) → shows r.answer ≡ true
+results_show : (d : Store) (ls : List (Option Line)) (r : Result) → StoreSound d → Proper d → Memᴰ r (results d ls) → shows r.answer ≡ true
 unfolding results
 results_show d [] r s p m = absurd (Memᴰ.not-nil m)
 results_show d (l ∷ ls) r s p m =

@@ -1,12 +1,11 @@
 -- Bytes in pieces: what a block comes to is what was served of it, and then what is left. Assumes nothing.
-use Prim.Native.Nat.{ℕ, suc, ◌+◌, ◌-◌, ◌≤◌}
+use Prim.Native.Nat.{ℕ, suc, ◌+◌, ◌-◌}
 use mathlib.Core.Path.{◌≡◌, refl, sym, ap, ap₂, ◌∙◌}
 use mathlib.Core.Bool.{Bool, true, false}
 use mathlib.Core.List.{List, [], ◌∷◌, ◌++◌, append_assoc}
 use native.Mathlib.Omega.{arith}
 use lib.Dec.{eqb}
-use lib.ListN.{length, drop, drop_of_length-le}
-use lib.Seq.{drop-drop}
+use lib.ListN.{length, drop}
 use Rattle.bits.specs.Words.{◌and◌, when◌then◌else◌}
 use Rattle.bits.proofs.Truth.{by_truth, if_true, if_false}
 use Rattle.reader.specs.Reader.{step_of}
@@ -56,18 +55,12 @@ module _ (G : Guards) where
         y.1 ∙ ap (λ (m : List ℕ). byte.wrote ++ emitted G byte.stands m) (drop_one byte.read b l),
       )))
 
-  -- a block served from a place on leads where its bytes from that place lead
-  pub served_on : (room : ℕ) (p q : Standing) (block out out' : List ℕ) (at next used : ℕ)
-      → IsServed (serving G room true p (drop at block)) at out q next used out' → after G q (drop next block) ≡ after G p (drop at block)
-  served_on room p q block out out' at next used s =
-      let stop = serving G room true p (drop at block) in
-      ap₂ (λ (r : Standing) (n : ℕ). after G r (drop n block)) s.stands_is s.next_is
-      ∙ ap (after G stop.stands) (sym (drop-drop stop.read at block))
-      ∙ sym (serving_splits room true p (drop at block)).0
+  -- what is left of a block that was served leads where the whole block leads
+  pub served_on : (room : ℕ) (p : Standing) (block : List ℕ) {q : Standing} {out out' : List ℕ} {read written : ℕ}
+      → IsServed (serving G room true p block) block out q read written out' → after G q (drop read block) ≡ after G p block
+  served_on room p block s =
+      ap₂ (λ (r : Standing) (n : ℕ). after G r (drop n block)) s.stands_is s.read_is ∙ sym (serving_splits room true p block).0
 
   pub after_none : (p : Standing) → after G p [] ≡ p
   unfolding after
   after_none p = refl
-
-  pub at_end : (p : Standing) (block : List ℕ) (at : ℕ) → length block ≤ at → after G p (drop at block) ≡ p
-  at_end p block at h = ap (after G p) (drop_of_length-le block h) ∙ after_none p

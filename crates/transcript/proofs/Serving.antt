@@ -6,7 +6,7 @@ use mathlib.Core.List.{List, [], ◌∷◌, ◌++◌, append_assoc}
 use native.Mathlib.Omega.{arith}
 use lib.Dec.{eqb, ltb}
 use lib.ListN.{length, drop}
-use borrow.Author.Tests.{eq-eqb, ne_eqb, lt-ltb, le-ltb}
+use borrow.Author.Tests.{eq-eqb, ne_eqb, lt-ltb, le-ltb, ltb-true, ltb-false}
 use Rattle.bits.proofs.Truth.{clash, by_truth, and_intro, and_false, false_and, or_left, or_right, false_or, if_true, if_false}
 use Rattle.reader.specs.Reader.{step_of, fresh}
 use Rattle.reader.specs.declared.Reader.{Reader}
@@ -23,6 +23,15 @@ use Rattle.transcript.specs.Stream.{Standing, reading, replied, reply, closing, 
 pub ahead_more : (j k : ℕ) (w v : List ℕ) (s : Stop) → ahead j w (ahead k v s) ≡ ahead (j + k) (w ++ v) s
 ahead_more j k w v s = ap₂ (λ (n : ℕ) (u : List ℕ). record { stands = s.stands; read = n; wrote = u }) (omega arith) (sym (append_assoc w v s.wrote))
 
+-- the place behind a block with no newline
+pub fed_used : (s : Reader) (l : List ℕ) (at : ℕ) → (fed s l at).whole ≡ false → (fed s l at).next ≡ at + length l
+fed_used s [] at h = rw (fed_none s at) (omega arith)
+fed_used s (b ∷ l) at h =
+    by_truth (eqb b 10) (λ e. clash (ap (λ (f : Fed). f.whole) (fed_line s b l at e)) h)
+    (λ e.
+    let f = fed_byte s b l at e in
+    ap (λ (g : Fed). g.next) f ∙ fed_used (step_of s b) l (at + 1) (sym (ap (λ (g : Fed). g.whole) f) ∙ h) ∙ omega arith)
+
 -- ---- where it stops
 
 pub full_room : (room number : ℕ) → room < row_room → full room number ≡ true
@@ -36,6 +45,13 @@ full_number room number e = or_right (ltb room row_room) (eq-eqb number (2 ^ 64 
 pub not_full : (room number : ℕ) → row_room ≤ room → (number ≡ 2 ^ 64 - 1 → ⊥) → full room number ≡ false
 unfolding full
 not_full room number h n = false_or _ (le-ltb room row_room h) ∙ ne_eqb number (2 ^ 64 - 1) n
+
+module _ (room number : ℕ) (free : full room number ≡ false) where
+  pub room_left : row_room ≤ room
+  room_left = by_truth (ltb room row_room) (λ e. clash (full_room room number (ltb-true room row_room e)) free) (ltb-false room row_room)
+
+  pub number_left : number ≡ 2 ^ 64 - 1 → ⊥
+  number_left e = clash (full_number room number e) free
 
 module _ (G : Guards) (room : ℕ) where
   pub serving_full : (p : Standing) (l : List ℕ) → full room p.number ≡ true → serving G room true p l ≡ halt p

@@ -1,11 +1,10 @@
 -- The whole output of the transcript program as a function of its whole input: the section of 01 on the program.
-use Rattle.std.specs.Prelude.{◌+◌, ◌∷◌, ◌++◌}
+use Rattle.std.specs.Prelude.{◌+◌, ◌∷◌, ◌++◌, Option, None}
 use Rattle.bits.specs.Words.{ℕ, List, [], eqb, when◌then◌else◌, tabulate}
 use Rattle.table.specs.Table.{table_length}
 use Rattle.reader.specs.Bytes.{newline, empty}
 use Rattle.reader.specs.Line.{line}
 use Rattle.reader.specs.declared.Line.{Line}
-use Rattle.reader.specs.declared.Line.TheVariants.{Refused}
 use Rattle.output.specs.Text.{row, header}
 use Rattle.entries.specs.declared.Phase.TheVariants.{Opening}
 use Rattle.ledger.specs.Store.{Store, store}
@@ -13,8 +12,8 @@ use Rattle.ledger.specs.Step.{guarded, step}
 
 -- the lines of an input behind the first bytes q of a line: a newline ends a line, and what is left over without one is one
 -- more line, refused
-unfoldable pub lines_of : List ℕ → List ℕ → List Line
-lines_of q [] = when empty q then [] else Refused ∷ []
+unfoldable pub lines_of : List ℕ → List ℕ → List (Option Line)
+lines_of q [] = when empty q then [] else None ∷ []
 lines_of q (b ∷ l) = when eqb b newline then line q ∷ lines_of [] l else lines_of (q ++ (b ∷ [])) l
 
 -- what is shown of a line
@@ -23,7 +22,7 @@ pub record Result : Type 0 where
   pub spent : ℕ
 
 -- what is shown of lines, one after the other, by the guards of 01
-unfoldable pub results : Store → List Line → List Result
+unfoldable pub results : Store → List (Option Line) → List Result
 results d [] = []
 results d (l ∷ ls) = record { answer = (step guarded d l).answer; spent = (step guarded d l).spent } ∷ results (step guarded d l).state ls
 

@@ -8,11 +8,12 @@ use Rattle.reader.specs.Reader.{step_of, finished, fresh}
 use Rattle.reader.specs.declared.Reader.{Reader}
 use Rattle.reader.specs.declared.Reader.TheVariants.{Letters}
 use Rattle.output.specs.Text.{row, row_room}
-use Rattle.entries.specs.declared.Phase.TheVariants.{Opening}
 use Rattle.entries.specs.declared.Fault.TheVariants.{WrongForm}
 use Rattle.entries.specs.Words.{fault_number}
 use Rattle.transcript.specs.declared.Progress.{Progress}
-use Rattle.ledger.specs.Store.{Store, store}
+use Rattle.ledger.specs.Store.{Store}
+use Rattle.ledger.specs.declared.Ledger.{Ledger}
+use Rattle.ledger.specs.Ledger.{shown}
 use Rattle.ledger.specs.Step.{Guards, step}
 
 -- where a transcript stands: what it keeps, the number of the line that is being read, and its reader
@@ -21,17 +22,13 @@ pub record Standing : Type 0 where
   pub number : ℕ
   pub reader : Reader
 
--- the same by its parts, as the code keeps them
-abbrev pub standing : Progress → List ℕ → List ℕ → List ℕ → List ℕ → List ℕ → Standing
-standing p table juniors permissions clearances labels = record {
-  kept = store p.phase table juniors permissions clearances labels;
-  number = p.number;
-  reader = p.reader;
-}
+-- the same as the code keeps it
+abbrev pub standing : Progress → Ledger → Standing
+standing p l = record { kept = shown l; number = p.number; reader = p.reader }
 
 -- before the first byte
 abbrev pub started : Progress
-started = record { phase = Opening; number = 1; reader = Letters 0 }
+started = record { number = 1; reader = Letters 0 }
 
 -- with another reader
 abbrev pub reading : Standing → Reader → Standing
@@ -90,10 +87,11 @@ serving G room between p (b ∷ l) =
     when eqb b newline then ahead 1 (reply G p p.reader) (serving G (room - length (reply G p p.reader)) true (replied G p p.reader) l) else
     ahead 1 [] (serving G room false (reading p (step_of p.reader b)) l)
 
--- q, the places next and used, and out' are those of a block served from a place on; used is a place of out'
-pub record IsServed (stop : Stop) (at : ℕ) (out : List ℕ) (q : Standing) (next used : ℕ) (out' : List ℕ) : Type 0 where
+-- q, the bytes read and written, and out' are those of a block that was served; read is a place of it, and written one of out'
+pub record IsServed (stop : Stop) (block out : List ℕ) (q : Standing) (read written : ℕ) (out' : List ℕ) : Type 0 where
   pub stands_is : q ≡ stop.stands
-  pub next_is : next ≡ at + stop.read
-  pub used_is : used ≡ length stop.wrote
+  pub read_is : read ≡ stop.read
+  pub written_is : written ≡ length stop.wrote
   pub out_is : out' ≡ sets out 0 stop.wrote
-  pub within : used ≤ length out'
+  pub read_within : read ≤ length block
+  pub written_within : written ≤ length out'

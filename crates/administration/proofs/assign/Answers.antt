@@ -2,7 +2,6 @@
 use Prim.Native.Nat.{ℕ}
 use mathlib.Core.Path.{refl, ap, ◌∙◌}
 use lib.ListN.{set}
-use borrow.Author.Tests.{not-true, not-false}
 use Rattle.table.specs.Reading.{assigned_at, state}
 use Rattle.table.proofs.Encode.{encode_state, write_assigned}
 use Rattle.separation.proofs.Sets.{static_told}
@@ -10,11 +9,10 @@ use Rattle.rbac.proofs.Serving.{serve_yes, serve_no}
 use Rattle.administration.proofs.assign.Goals as goal
 
 pub returns-then-not-static_fit : goal.returns-then-not-static_fit
-returns-then-not-static_fit c = serve_no (static_told c.args.t.now c.requires.whole _ c.with-more.ensures c.static_fit.ensures ∙ not-true _ c.if-not-static_fit.true-raw) refl
+returns-then-not-static_fit c = serve_no (static_told c.args.t.now c.told-t _ c.with-more.ensures c.static_fit.ensures ∙ c.if-not-static_fit.true) refl
 
 pub returns : goal.returns
 returns c =
     let a = c.args in
-    let p = c.requires in
-    serve_yes (static_told a.t.now p.whole _ c.with-more.ensures c.static_fit.ensures ∙ not-false _ c.if-not-static_fit.false-raw)
-    (ap (λ (w : ℕ). set a.t.now (assigned_at a.u) w) c.with-more.ensures ∙ write_assigned (state a.t.now) (encode_state a.t.now p.whole) a.u _ p.ranged.0)
+    serve_yes (static_told a.t.now c.told-t _ c.with-more.ensures c.static_fit.ensures ∙ c.if-not-static_fit.false)
+    (ap (λ (w : ℕ). set a.t.now (assigned_at a.u) w) c.with-more.ensures ∙ write_assigned (state a.t.now) (encode_state a.t.now c.told-t) a.u _ c.requires.0)

@@ -1,34 +1,27 @@
--- `serve` meets its contract: an arm for each code. Assumes nothing.
+-- `serve` meets its contract: the refusals of a code and of a length, then the request. Assumes nothing.
+use mathlib.Core.Path.{◌≡◌, ◌∙◌}
 use native.Mathlib.Omega.{arith}
+use Rattle.std.proofs.lemmas.Grind.{common_steps}
+use Rattle.table.proofs.Table.{not_table}
+use Rattle.requests.specs.Answer.{number_of}
 use Rattle.requests.proofs.Outcome.{comes_to, refused, both, both_to}
-use Rattle.rbac.proofs.Codes.{NoneOf}
+use Rattle.rbac.proofs.Guarding.{sound_step_short}
 use Rattle.administration.proofs.Administration.{administration_step_lem, administration_other}
 use Rattle.administration.proofs.serve.Goals as goal
 
+pub returns-in_err-ok_or-in-7-to-14 : goal.returns-in_err-ok_or-in-7-to-14
+returns-in_err-ok_or-in-7-to-14 c =
+    let n : number_of c.from_residual.result ≡ 12 = grind (arith, common_steps) in
+    let t = c.args.t.now in
+    rw n (both (comes_to (administration_step_lem t _ (omega arith) (omega arith) ∙ sound_step_short t _ (not_table t (grind (arith, common_steps)))) refused))
+
+pub returns-in_ok-ok_or-in-7-to-14 : goal.returns-in_ok-ok_or-in-7-to-14
+returns-in_ok-ok_or-in-7-to-14 c =
+    let k = rw c.in_ok-ok_or-in-7-to-14.ensures.ok_part at c.as_mut_array.ensures.cases in
+    both_to (administration_step_lem _ _ (omega arith) (omega arith)) (rw (← k.same) c.perform.ensures)
+
 pub returns-in_default : goal.returns-in_default
-unfolding NoneOf
-returns-in_default c = both (comes_to (administration_other _ _ c.in_default.in_default-own.rest) refused)
+returns-in_default c = both (comes_to (administration_other _ _ (λ l h. omega arith)) refused)
 
-pub returns-in-7 : goal.returns-in-7
-returns-in-7 c = rw c.in-7.is (both_to (administration_step_lem _ _ (omega arith) (omega arith)) c.serve_code.ensures)
-
-pub returns-in-8 : goal.returns-in-8
-returns-in-8 c = rw c.in-8.is (both_to (administration_step_lem _ _ (omega arith) (omega arith)) c.serve_code-in-8.ensures)
-
-pub returns-in-9 : goal.returns-in-9
-returns-in-9 c = rw c.in-9.is (both_to (administration_step_lem _ _ (omega arith) (omega arith)) c.serve_code-in-9.ensures)
-
-pub returns-in-10 : goal.returns-in-10
-returns-in-10 c = rw c.in-10.is (both_to (administration_step_lem _ _ (omega arith) (omega arith)) c.serve_code-in-10.ensures)
-
-pub returns-in-11 : goal.returns-in-11
-returns-in-11 c = rw c.in-11.is (both_to (administration_step_lem _ _ (omega arith) (omega arith)) c.serve_code-in-11.ensures)
-
-pub returns-in-12 : goal.returns-in-12
-returns-in-12 c = rw c.in-12.is (both_to (administration_step_lem _ _ (omega arith) (omega arith)) c.serve_code-in-12.ensures)
-
-pub returns-in-13 : goal.returns-in-13
-returns-in-13 c = rw c.in-13.is (both_to (administration_step_lem _ _ (omega arith) (omega arith)) c.serve_code-in-13.ensures)
-
-pub returns-in-14 : goal.returns-in-14
-returns-in-14 c = rw c.in-14.is (both_to (administration_step_lem _ _ (omega arith) (omega arith)) c.serve_code-in-14.ensures)
+pub returns-in_default-2 : goal.returns-in_default-2
+returns-in_default-2 c = both (comes_to (administration_other _ _ (λ l h. omega arith)) refused)

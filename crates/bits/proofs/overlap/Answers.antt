@@ -1,5 +1,5 @@
 -- `bits::overlap` meets its contract. Assumes nothing.
-use Rattle.bits.proofs.Members.{overlap_is}
+use Rattle.bits.proofs.Membership.{overlap_is}
 use Rattle.bits.proofs.overlap.Goals as goal
 
 pub returns : goal.returns

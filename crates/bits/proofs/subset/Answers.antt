@@ -1,5 +1,5 @@
 -- `bits::subset` meets its contract. Assumes nothing.
-use Rattle.bits.proofs.Members.{subset_is}
+use Rattle.bits.proofs.Membership.{subset_is}
 use Rattle.bits.proofs.subset.Goals as goal
 
 pub returns : goal.returns

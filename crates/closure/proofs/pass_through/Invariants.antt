@@ -4,5 +4,5 @@ use Rattle.bits.proofs.Tabulate.{Writing}
 use Rattle.closure.proofs.Closure.{passed}
 use Rattle.closure.proofs.pass_through.Given as goal
 
-abbrev pub invariant-loop-r : goal.invariant-loop-r
-invariant-loop-r l = Writing (passed l.initial.rows l.k) 0 l.initial.rows l.rows l.r × (l.r ≤ 64)
+abbrev pub invariant-loop-row : goal.invariant-loop-row
+invariant-loop-row l = Writing (passed l.initial.rows l.k) 0 l.initial.rows l.rows l.row-index × (l.row-index ≤ 64)

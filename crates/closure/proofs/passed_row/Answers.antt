@@ -6,5 +6,5 @@ use Rattle.closure.proofs.passed_row.Goals as goal
 pub returns-then-has : goal.returns-then-has
 returns-then-has c = c.join.ensures ∙ sym (if_true _ _ (sym c.has.ensures ∙ c.if-has.true))
 
-pub returns : goal.returns
-returns c = sym (if_false _ _ (sym c.has.ensures ∙ c.if-has.false))
+pub returns-else-has : goal.returns-else-has
+returns-else-has c = sym (if_false _ _ (sym c.has.ensures ∙ c.if-has.false))

@@ -1,14 +1,17 @@
 -- `taken` meets its contract. Assumes nothing.
-use borrow.Author.Tests.{eq-eqb, ne_eqb}
-use Rattle.bits.proofs.Truth.{if_true, if_false}
-use mathlib.Core.Path.{sym}
+use mathlib.Core.Path.{◌≡◌, refl, ◌∙◌}
+use mathlib.Core.Bool.{Bool, true, false}
+use Rattle.std.specs.Prelude.{Some, None}
+use Rattle.std.specs.Bool.{then_some}
+use Rattle.bits.specs.Words.{when◌then◌else◌}
 use Rattle.entries.specs.Words.{taking}
 use Rattle.entries.proofs.taken.Goals as goal
 
-pub returns-then-n-k : goal.returns-then-n-k
-unfolding taking
-returns-then-n-k c = sym (if_true _ _ (eq-eqb _ _ c.if-n-k.true))
+then_is : {A : Type 0} (b : Bool) (x : A) → then_some b x ≡ (when b then Some x else None)
+unfolding when◌then◌else◌
+then_is true x = refl
+then_is false x = refl
 
 pub returns : goal.returns
 unfolding taking
-returns c = sym (if_false _ _ (ne_eqb _ _ c.if-n-k.false))
+returns c = c.then_some.ensures ∙ then_is _ c.args.i

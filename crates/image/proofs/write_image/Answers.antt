@@ -25,4 +25,4 @@ returns c =
     c.assigned_words.ensures)
     c.granted_words.ensures)
     c.granted_words-2.ensures))
-    ∙ written_image a.t.now a.clearances.now a.labels.now c.requires.0
+    ∙ written_image a.t.now a.clearances.now a.labels.now c.told-t

@@ -11,15 +11,15 @@ use Rattle.labels.proofs.perform.Goals as goal
 pub level_roles-requires : goal.level_roles-requires
 level_roles-requires c =
     let a = c.args in
-    let p = c.requires in
-    start_level a.code a.a a.b a.c p.1 p.2 p.3 c.in-3.is
+    let r = c.requires in
+    start_level a.code a.a a.b a.c r.0 r.1 r.2 c.in-3.is
 
 pub reclear-requires : goal.reclear-requires
 reclear-requires c =
     let a = c.args in
-    let p = c.requires in
+    let r = c.requires in
     let n = c.in_default.in_default-own.rest in
-    (p.0, reclear_user a.code a.a a.b a.c p.1 p.2 p.3 (fifth p.1 p.2 n.0.0.0.1 n.0.0.1 n.0.1 n.1))
+    reclear_user a.code a.a a.b a.c r.0 r.1 r.2 (fifth r.0 r.1 n.0.0.0.1 n.0.0.1 n.0.1 n.1)
 
 pub returns-in-1 : goal.returns-in-1
 unfolding plan
@@ -51,7 +51,7 @@ pub returns-in_default : goal.returns-in_default
 unfolding plan
 returns-in_default c =
     let a = c.args in
-    let p = c.requires in
+    let r = c.requires in
     let n = c.in_default.in_default-own.rest in
-    planned_as a.t.now (reclearing_code a.a a.b a.c (fifth p.1 p.2 n.0.0.0.1 n.0.0.1 n.0.1 n.1))
+    planned_as a.t.now (reclearing_code a.a a.b a.c (fifth r.0 r.1 n.0.0.0.1 n.0.0.1 n.0.1 n.1))
     c.reclear.ensures

@@ -1,67 +1,70 @@
--- `serve` meets its contract: the refusals of a length and of a code, and an arm for each code. Assumes nothing.
-use mathlib.Core.Path.{refl, ◌∙◌}
+-- `serve` meets its contract: the refusals in their order, then the request. Assumes nothing.
+use Prim.Native.Nat.{ℕ, ◌≤◌}
+use mathlib.Core.Path.{◌≡◌, refl, sym, ap, ◌∙◌}
+use mathlib.Core.List.{List}
 use native.Mathlib.Omega.{arith}
+use Rattle.bits.proofs.Truth.{is_false}
 use Rattle.table.proofs.Table.{is_table_lem, not_table}
 use Rattle.requests.specs.Request.{ask}
+use Rattle.requests.proofs.Arguments.{within_row}
 use Rattle.rbac.specs.Guard.{sound_step}
-use Rattle.rbac.proofs.Codes.{NoneOf}
-use Rattle.machine.specs.Machine.{limits}
-use Rattle.labels.proofs.Refusing.{no_code, translated_code, image_step_short, image_step_table}
-use Rattle.labels.proofs.Replying.{refused_clauses}
+use Rattle.machine.specs.Machine.{limits, in_range, decode}
+use Rattle.machine.proofs.Steps.{code_elim}
+use Rattle.labels.specs.Guard.{plan, carry_out}
+use Rattle.labels.proofs.Refusing.{is_code_lem, translated_code, translated_argument, image_step_short, image_step_table, image_step_plan}
+use Rattle.labels.proofs.Replying.{clauses, replied_as, refused_clauses}
 use Rattle.labels.proofs.serve.Goals as goal
+use Rattle.labels.proofs.serve.Goals.{then-code-lt1-via-then-code-lt1, then-code-lt1-via-else-code-lt1+then-code-gt5}
 
-pub returns-then-t-ne-WORDS : goal.returns-then-t-ne-WORDS
-returns-then-t-ne-WORDS c =
-    let a = c.args in
-    refused_clauses 12 (image_step_short a.t.now (ask a.code a.a a.b a.c) (not_table _ c.if-t-ne-WORDS.true))
-    c.refused.ensures.answer c.refused.ensures.spent
-
--- a code without an arm
 pub returns-in_default : goal.returns-in_default
-unfolding NoneOf
 returns-in_default c =
     let a = c.args in
+    refused_clauses 12 (image_step_short a.t.now (ask a.code a.a a.b a.c) (not_table _ c.in_default.ensures.cases))
+    c.refused.ensures.answer c.refused.ensures.spent refl
+
+pub returns-then-code-lt1 : goal.returns-then-code-lt1
+returns-then-code-lt1 c =
+    let a = c.args in
     let q = ask a.code a.a a.b a.c in
+    let whole = c.in-Some.ensures.cases in
+    let left : c.then-code-lt1.t ≡ c.in-Some.table.now = elim c.then-code-lt1.branch [
+      | then-code-lt1-via-then-code-lt1 w ↦ w.t-is
+      | then-code-lt1-via-else-code-lt1+then-code-gt5 w ↦ w.t-is
+    ] in
     refused_clauses 15
-    (image_step_table a.t.now q (is_table_lem _ c.if-t-ne-WORDS.false) ∙ translated_code sound_step a.t.now q (no_code q c.in_default.in_default-own.rest))
-    c.refused-in_default.ensures.answer c.refused-in_default.ensures.spent
+    (image_step_table a.t.now q (is_table_lem _ whole.long) ∙ translated_code sound_step a.t.now q (is_false (λ e. let k = code_elim q e in omega arith)))
+    c.refused-then-code-lt1.ensures.answer c.refused-then-code-lt1.ensures.spent (left ∙ whole.same)
 
-pub serve_code-requires : goal.serve_code-requires
-unfolding limits
-serve_code-requires c = (c.if-t-ne-WORDS.false, omega arith, omega arith, refl)
+pub returns-then-not-within : goal.returns-then-not-within
+unfolding in_range limits
+returns-then-not-within c =
+    let a = c.args in
+    let q = ask a.code a.a a.b a.c in
+    let whole = c.in-Some.ensures.cases in
+    let least : 1 ≤ a.code = omega arith in
+    let most : a.code ≤ 5 = omega arith in
+    refused_clauses 16
+    (image_step_table a.t.now q (is_table_lem _ whole.long)
+    ∙ translated_argument sound_step a.t.now q (is_code_lem q least most) (sym (within_row a.code a.a a.b a.c c.within.ensures refl) ∙ c.if-not-within.true))
+    c.refused-then-not-within.ensures.answer c.refused-then-not-within.ensures.spent whole.same
 
-pub serve_code-requires-in-2 : goal.serve_code-requires-in-2
-unfolding limits
-serve_code-requires-in-2 c = (c.if-t-ne-WORDS.false, omega arith, omega arith, refl)
+pub perform-requires : goal.perform-requires
+unfolding in_range limits
+perform-requires c =
+    let a = c.args in
+    let least : 1 ≤ a.code = omega arith in
+    let most : a.code ≤ 5 = omega arith in
+    (least, most, sym (within_row a.code a.a a.b a.c c.within.ensures refl) ∙ c.if-not-within.false)
 
-pub serve_code-requires-in-3 : goal.serve_code-requires-in-3
-unfolding limits
-serve_code-requires-in-3 c = (c.if-t-ne-WORDS.false, omega arith, omega arith, refl)
-
-pub serve_code-requires-in-4 : goal.serve_code-requires-in-4
-unfolding limits
-serve_code-requires-in-4 c = (c.if-t-ne-WORDS.false, omega arith, omega arith, refl)
-
-pub serve_code-requires-in-5 : goal.serve_code-requires-in-5
-unfolding limits
-serve_code-requires-in-5 c = (c.if-t-ne-WORDS.false, omega arith, omega arith, refl)
-
-pub returns-in-1 : goal.returns-in-1
-unfolding limits
-returns-in-1 c = rw c.in-1.is c.serve_code.ensures
-
-pub returns-in-2 : goal.returns-in-2
-unfolding limits
-returns-in-2 c = rw c.in-2.is c.serve_code-in-2.ensures
-
-pub returns-in-3 : goal.returns-in-3
-unfolding limits
-returns-in-3 c = rw c.in-3.is c.serve_code-in-3.ensures
-
-pub returns-in-4 : goal.returns-in-4
-unfolding limits
-returns-in-4 c = rw c.in-4.is c.serve_code-in-4.ensures
-
-pub returns-in-5 : goal.returns-in-5
-unfolding limits
-returns-in-5 c = rw c.in-5.is c.serve_code-in-5.ensures
+pub returns : goal.returns
+unfolding in_range limits
+returns c =
+    let a = c.args in
+    let whole = c.in-Some.ensures.cases in
+    let least : 1 ≤ a.code = omega arith in
+    let most : a.code ≤ 5 = omega arith in
+    let ranged = sym (within_row a.code a.a a.b a.c c.within.ensures refl) ∙ c.if-not-within.false in
+    clauses (replied_as
+    (image_step_plan a.t.now a.code a.a a.b a.c whole.long least most ranged
+    ∙ ap (λ (l : List ℕ). carry_out sound_step l (plan sound_step l (decode (ask a.code a.a a.b a.c)))) (sym whole.same))
+    c.perform.ensures)

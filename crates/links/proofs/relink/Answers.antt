@@ -19,4 +19,4 @@ returns c =
     ∙ ap (λ (l : List ℕ). encode (set_seniority S (λ p. get_or l p 0) (upd S.direct a.r a.direct)))
     (c.closure_of-rows.ensures
     ∙ ap (λ (l : List ℕ). closure (set l a.r a.direct)) c.words_from-given.ensures
-    ∙ ap closure (set_tabulate 64 S.direct a.r a.direct c.requires.1))
+    ∙ ap closure (set_tabulate 64 S.direct a.r a.direct c.requires))

@@ -9,6 +9,5 @@ use Rattle.links.proofs.write_seniority.Goals as goal
 pub returns : goal.returns
 returns c =
     let a = c.args in
-    let p = c.requires in
     c.overlay.ensures
-    ∙ write_juniors _ (write_direct (state a.t.now) (encode_state a.t.now p.0) a.r a.direct p.1) a.rows.now (search rules)
+    ∙ write_juniors _ (write_direct (state a.t.now) (encode_state a.t.now c.told-t) a.r a.direct c.requires) a.rows.now (search rules)

@@ -2,11 +2,11 @@
 use Rattle.masks.proofs.Gathering.{gather_start, gather_step, gather_end}
 use Rattle.masks.proofs.gather.Goals as goal
 
-pub loop-left-preserved : goal.loop-left-preserved
-loop-left-preserved c = gather_step c.loop-left.invariant c.loop-left-test.true c.lowest-o.ensures c.rest-left.ensures c.note.ensures
+pub loop-o-preserved : goal.loop-o-preserved
+loop-o-preserved c = let n = (c.in-Some.ensures).steps in gather_step c.loop-o.invariant n.0 n.1 n.2 c.note.ensures
 
-pub loop-left-init : goal.loop-left-init
-loop-left-init c = gather_start c.requires.2 (c.type_inv.t _).fits
+pub loop-o-init : goal.loop-o-init
+loop-o-init c = rw (c.into_iter-o-iterator.ensures.into_iter_gives, c.of-o-items.ensures) (gather_start c.requires.1 (c.fits-t _))
 
 pub returns : goal.returns
-returns c = gather_end c.loop-left.invariant c.loop-left-test.false
+returns c = gather_end c.loop-o.invariant c.in-None.ensures.steps.0

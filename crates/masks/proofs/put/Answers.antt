@@ -8,6 +8,6 @@ pub returns-then-b : goal.returns-then-b
 unfolding put
 returns-then-b c = c.with.ensures ∙ sym (if_true _ _ c.if-b.true)
 
-pub returns : goal.returns
+pub returns-else-b : goal.returns-else-b
 unfolding put
-returns c = c.without.ensures ∙ sym (if_false _ _ c.if-b.false)
+returns-else-b c = c.without.ensures ∙ sym (if_false _ _ c.if-b.false)

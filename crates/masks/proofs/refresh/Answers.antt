@@ -1,5 +1,6 @@
 -- `refresh` meets its contract. Assumes nothing.
 use borrow.Author.Rules.{rules}
+use mathlib.Core.Logic.{⊎_elim}
 use mathlib.Core.Path.{◌∙◌}
 use native.Mathlib.Omega.{arith}
 use Rattle.table.proofs.Table.{short_table, past_table}
@@ -7,10 +8,10 @@ use Rattle.masks.proofs.Refreshing.{session_refreshed_lem, session_left}
 use Rattle.masks.proofs.refresh.Goals as goal
 
 pub returns-then-t-ne-WORDS : goal.returns-then-t-ne-WORDS
-returns-then-t-ne-WORDS c = let a = c.args in session_left a.t.now a.s (short_table a.t.now a.s 32 c.if-t-ne-WORDS.true)
-
-pub returns-then-s-gt31 : goal.returns-then-s-gt31
-returns-then-s-gt31 c = let a = c.args in session_left a.t.now a.s (past_table a.t.now a.s 32 c.if-s-gt31.true)
+returns-then-t-ne-WORDS c =
+    let t = c.args.t.now in
+    let s = c.args.s in
+    session_left t s (⊎_elim (λ n. short_table t s 32 n) (λ p. past_table t s 32 p.1) c.then-t-ne-WORDS.either)
 
 pub returns : goal.returns
 returns c =

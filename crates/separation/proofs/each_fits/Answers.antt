@@ -1,17 +1,15 @@
--- The goals that are left.
-use mathlib.Core.Path.{sym}
-use Rattle.bits.proofs.Truth.{confirmed, refuted}
-use Rattle.bits.proofs.Below.{widen, all_intro, all_fails, passed_none, passed_more, passed_all}
+-- `each_fits` meets its contract: each set is asked. Assumes nothing.
+use Prim.Native.Nat.{◌+◌}
+use Rattle.std.proofs.Common.{rules}
+use Rattle.bits.specs.Words.{has}
+use Rattle.bits.proofs.Chains.{all_is}
+use Rattle.table.specs.Separation.{mask, bound, fewer}
+use Rattle.table.specs.Reading.{state}
 use Rattle.separation.proofs.each_fits.Goals as goal
 
-pub returns-then-not-is_fewer : goal.returns-then-not-is_fewer
-returns-then-not-is_fewer c = sym (all_fails _ 16 c.loop-n.n (widen 16 c.loop-n-test.true tt) (refuted c.is_fewer.ensures c.if-not-is_fewer.true-raw))
-
-pub loop-n-preserved : goal.loop-n-preserved
-loop-n-preserved c = passed_more c.loop-n.invariant (widen 16 c.loop-n-test.true tt) (confirmed c.is_fewer.ensures c.if-not-is_fewer.false-raw)
-
 pub returns : goal.returns
-returns c = sym (all_intro _ 16 (passed_all c.loop-n.invariant c.loop-n-test.false))
-
-pub loop-n-init : goal.loop-n-init
-loop-n-init c = passed_none
+returns c =
+    let S = state c.args.t.now in
+    let i = c.args.first in
+    all_is (λ n. fewer (mask S (i + n)) (bound S (i + n)) (has c.args.roles)) c.all.ensures.ran
+    (λ n q k. (search rules, λ l. search rules)) (λ n q k l. search rules)

@@ -10,6 +10,6 @@ use Rattle.sessions.proofs.close.Goals as goal
 pub returns : goal.returns
 returns c =
     let a = c.args in
-    let p = c.requires in
+    let h = c.requires in
     serve_yes refl
-    (ap (λ (w : ℕ). set a.t.now (holds_at a.s a.x) w) c.without.ensures ∙ write_holds (state a.t.now) (encode_state a.t.now p.whole) a.s a.x _ p.ranged.0 p.ranged.2)
+    (ap (λ (w : ℕ). set a.t.now (holds_at a.s a.x) w) c.without.ensures ∙ write_holds (state a.t.now) (encode_state a.t.now c.told-t) a.s a.x _ h.0 h.2)

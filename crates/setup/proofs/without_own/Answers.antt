@@ -1,13 +1,9 @@
--- The goals that are left.
-use mathlib.Core.Path.{refl}
-use Rattle.bits.proofs.Tabulate.{fill_start, fill_step, fill_end}
+-- `without_own` meets its contract. Assumes nothing.
+use Rattle.std.proofs.Common.{rules}
+use Rattle.bits.specs.Words.{get_or}
+use Rattle.bits.specs.Sets.{◌without◌}
+use Rattle.bits.proofs.Chains.{made_is}
 use Rattle.setup.proofs.without_own.Goals as goal
 
-pub loop-r-init : goal.loop-r-init
-loop-r-init c = fill_start refl
-
-pub loop-r-preserved : goal.loop-r-preserved
-loop-r-preserved c = fill_step c.loop-r.invariant c.loop-r-test.true c.without.ensures
-
 pub returns : goal.returns
-returns c = fill_end c.loop-r.invariant c.loop-r-test.false
+returns c = made_is _ (λ r. get_or c.args.direct.now r 0 without r) 64 (λ r y q k. (search rules, λ l. search rules)) c.from_fn.ensures.items

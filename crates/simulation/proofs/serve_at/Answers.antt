@@ -8,7 +8,7 @@ use Rattle.simulation.proofs.serve_at.Goals as goal
 pub returns-then-n-i : goal.returns-then-n-i
 returns-then-n-i c =
     let a = c.args in
-    refused_clauses 18 (serve_past a.t.now a.words.now a.i c.if-n-i.true) refl refl
+    refused_clauses 18 (serve_past a.t.now a.words.now a.i c.if-n-i.true) refl refl refl
 
 pub returns : goal.returns
 unfolding ask_at

@@ -5,10 +5,12 @@ use Rattle.bits.proofs.Truth.{or_left, false_or}
 use Rattle.sound.specs.Tests.{grant_fits}
 use Rattle.sound.proofs.grant_fits.Goals as goal
 
-pub returns-then-granted-eq0 : goal.returns-then-granted-eq0
+pub returns-then-t-x-eq0 : goal.returns-then-t-x-eq0
 unfolding grant_fits
-returns-then-granted-eq0 c = sym (or_left _ (eq-eqb _ _ c.if-granted-eq0.true))
+returns-then-t-x-eq0 c =
+    let none = eq-eqb _ 0 c.if-t-x-eq0.true in
+    none ∙ sym (or_left _ none)
 
-pub returns : goal.returns
+pub returns-else-t-x-eq0 : goal.returns-else-t-x-eq0
 unfolding grant_fits
-returns c = c.has.ensures ∙ sym (false_or _ (ne_eqb _ _ c.if-granted-eq0.false))
+returns-else-t-x-eq0 c = c.has.ensures ∙ sym (false_or _ (ne_eqb _ 0 c.if-t-x-eq0.false))

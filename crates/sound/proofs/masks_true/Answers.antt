@@ -1,20 +1,17 @@
--- The goals that are left.
+-- `masks_true` meets its contract. Assumes nothing.
 use mathlib.Core.Path.{sym, ◌∙◌}
-use Rattle.bits.proofs.Below.{widen, passed_none, passed_more, passed_all}
-use Rattle.sound.proofs.Masks.{found_idle, found_true, found_false}
+use lib.Dec.{eqb}
+use lib.ListN.{get_or}
+use Rattle.bits.proofs.Chains.{all_is}
+use Rattle.std.proofs.Common.{rules, ◌+◌}
+use Rattle.sound.proofs.Masks.{found_idle, found_masks}
 use Rattle.sound.proofs.masks_true.Goals as goal
 
 pub returns-then-words_empty : goal.returns-then-words_empty
-returns-then-words_empty c = c.words_empty-then-words_empty.ensures ∙ found_idle c.args.t.now c.requires (sym c.words_empty.ensures ∙ c.if-words_empty.true)
-
-pub returns-then-t-i : goal.returns-then-t-i
-returns-then-t-i c = found_false c.args.t.now c.requires c.all_masks-masks.ensures c.loop-i.i (widen 256 c.loop-i-test.true tt) c.if-t-i.true
-
-pub loop-i-preserved : goal.loop-i-preserved
-loop-i-preserved c = passed_more c.loop-i.invariant (widen 256 c.loop-i-test.true tt) c.if-t-i.false
+returns-then-words_empty c = c.words_empty-then-words_empty.ensures ∙ found_idle c.args.t.now c.told-t (sym c.if-words_empty.ensures)
 
 pub returns : goal.returns
-returns c = found_true c.args.t.now c.requires c.all_masks-masks.ensures (passed_all c.loop-i.invariant c.loop-i-test.false)
-
-pub loop-i-init : goal.loop-i-init
-loop-i-init c = passed_none
+returns c =
+    all_is (λ i. eqb (get_or c.args.t.now (1096 + i) 0) (get_or c.all_masks-masks.result i 0)) c.all.ensures.ran
+    (λ i q k. (search rules, λ l. search rules)) (λ i q k l. search rules)
+    ∙ found_masks c.args.t.now c.told-t c.all_masks-masks.ensures

@@ -1,16 +1,24 @@
 -- `openings_within` meets its contract. Assumes nothing.
-use Prim.Native.Nat.{suc-le-suc}
-use mathlib.Core.Path.{◌∙◌}
-use Rattle.sound.proofs.Answers.{within_from, within_short, within_past}
+use mathlib.Core.Path.{sym, ◌∙◌}
+use borrow.Author.Tests.{le-ltb}
+use Rattle.bits.proofs.Truth.{false_and, and_false}
+use Rattle.table.specs.Table.{is_table}
+use Rattle.table.proofs.Table.{not_table}
+use Rattle.sound.specs.Answers.{openings_within}
+use Rattle.sound.proofs.Answers.{within_are}
 use Rattle.sound.proofs.openings_within.Goals as goal
 
-pub returns : goal.returns
-returns c =
-    let a = c.args in
-    c.holds_within.ensures ∙ within_from a.t.now a.s a.masks.now c.if-t-ne-WORDS.false (suc-le-suc c.if-s-gt31.false)
+pub returns-in_default : goal.returns-in_default
+unfolding openings_within
+returns-in_default c = sym (false_and _ (not_table _ c.in_default.ensures.cases))
 
-pub returns-then-t-ne-WORDS : goal.returns-then-t-ne-WORDS
-returns-then-t-ne-WORDS c = within_short _ _ _ c.if-t-ne-WORDS.true
+pub returns-then-s-lt32 : goal.returns-then-s-lt32
+returns-then-s-lt32 c =
+    let whole = c.in-Some.ensures.cases in
+    (rw whole.same at c.holds_within.ensures) ∙ within_are _ _ _ whole.long c.if-s-lt32.true
 
-pub returns-then-s-gt31 : goal.returns-then-s-gt31
-returns-then-s-gt31 c = within_past _ _ _ c.if-s-gt31.true
+pub returns-else-s-lt32 : goal.returns-else-s-lt32
+unfolding openings_within
+returns-else-s-lt32 c =
+    let past = le-ltb c.args.s 32 c.if-s-lt32.false in
+    past ∙ sym (and_false (is_table _) (false_and _ past))

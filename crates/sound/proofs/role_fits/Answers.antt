@@ -1,38 +1,36 @@
 -- `role_fits` meets its contract. Assumes nothing.
-use Prim.Native.Nat.{ℕ, ◌+◌, ◌<◌}
-use mathlib.Core.Path.{◌≡◌, sym, ap, ◌∙◌}
+use Prim.Native.Nat.{ℕ}
+use mathlib.Core.Path.{sym, ap, ◌≡◌, ◌∙◌}
 use mathlib.Core.Bool.{not}
 use lib.Dec.{eqb}
-use Rattle.bits.specs.Words.{List, Bool, length, has, pack, ◌with◌}
-use Rattle.bits.proofs.Truth.{true_and, false_and, not_intro}
+use Rattle.bits.specs.Words.{has, pack, ◌with◌}
+use Rattle.bits.proofs.Truth.{and_yes, and_no}
 use Rattle.bits.proofs.Word.{has_pack}
 use Rattle.table.specs.Authority.{covers}
-use Rattle.table.specs.Reading.{word, state}
-use Rattle.table.specs.Table.{table_length}
-use Rattle.table.specs.Answers.{covered_roles}
+use Rattle.table.specs.Reading.{state}
 use Rattle.table.proofs.Table.{is_table_lem}
 use Rattle.table.proofs.Answers.{covered_roles_are}
 use Rattle.sound.specs.Tests.{role_fits}
 use Rattle.sound.proofs.role_fits.Goals as goal
+use Rattle.sound.proofs.role_fits.Goals.{After-has}
 
 -- the word that is asked about
-below_is : (t : List ℕ) (r : ℕ) {below : ℕ} → length t ≡ table_length → below ≡ covered_roles t (word t (1032 + r)) → below ≡ pack 64 (covers (state t) ((state t).direct r))
-below_is t r h e = e ∙ sym (covered_roles_are _ _ (is_table_lem _ h))
+below_is : (c : After-has) → let S = state c.args.t.now in c.covered_roles-below.result ≡ pack 64 (covers S (S.direct c.args.r))
+below_is c = c.covered_roles-below.ensures ∙ sym (covered_roles_are _ _ (is_table_lem _ c.told-t))
 
 -- whether r is in it
-back_is : (f : ℕ → Bool) {below r : ℕ} {b : Bool} → below ≡ pack 64 f → r < 64 → b ≡ has below r → b ≡ f r
-back_is f {below} {r} e h told = told ∙ ap (λ (w : ℕ). has w r) e ∙ has_pack f 64 r h
+back_is : (c : After-has) → let S = state c.args.t.now in c.has.result ≡ covers S (S.direct c.args.r) c.args.r
+back_is c = c.has.ensures ∙ ap (λ (w : ℕ). has w c.args.r) (below_is c) ∙ has_pack _ 64 c.args.r c.requires
 
-pub returns-then-has : goal.returns-then-has
+pub returns-then-not-has : goal.returns-then-not-has
 unfolding role_fits
-returns-then-has c =
-    let below = below_is c.args.t.now c.args.r c.requires.0 c.covered_roles-below.ensures in
-    sym (false_and _ (ap not (sym (back_is _ below c.requires.1 c.has.ensures) ∙ c.if-has.true)))
+returns-then-not-has c =
+    let told = (goal.at.returns-then-not-has c).After-has in
+    ap (λ (w : ℕ). eqb ((state c.args.t.now).juniors c.args.r) w) (c.with.ensures ∙ ap (λ (w : ℕ). w with c.args.r) (below_is told))
+    ∙ and_yes (ap not (back_is told)) (ap not c.if-not-has.true)
 
-pub returns : goal.returns
+pub returns-else-not-has : goal.returns-else-not-has
 unfolding role_fits
-returns c =
-    let a = c.args in
-    let below = below_is a.t.now a.r c.requires.0 c.covered_roles-below.ensures in
-    ap (λ (w : ℕ). eqb ((state a.t.now).juniors a.r) w) (c.with.ensures ∙ ap (λ (w : ℕ). w with a.r) below)
-    ∙ sym (true_and _ (not_intro (sym (back_is _ below c.requires.1 c.has.ensures) ∙ c.if-has.false)))
+returns-else-not-has c =
+    let told = (goal.at.returns-else-not-has c).After-has in
+    and_no _ (ap not (back_is told)) (ap not c.if-not-has.false)

@@ -10,16 +10,17 @@ use Rattle.table.proofs.Answers.{authorised_roles_are}
 use Rattle.sound.proofs.Items.{roles_past, roles_idle, roles_busy}
 use Rattle.sound.proofs.roles_fit.Goals as goal
 
-pub returns : goal.returns
-returns c =
-    let a = c.args in
+pub returns-in-0 : goal.returns-in-0
+returns-in-0 c = roles_idle _ _ c.in-0.is (c.fits-t _)
+
+pub returns-in-1-to-64 : goal.returns-in-1-to-64
+returns-in-1-to-64 c =
+    let t = c.args.t.now in
+    let S = state t in
+    let u = user S c.args.s in
     c.subset.ensures
-    ∙ ap (λ (w : ℕ). subset ((state a.t.now).active a.s) w)
-    (c.authorised_roles.ensures ∙ sym (authorised_roles_are a.t.now (user (state a.t.now) a.s) (in_table a.t.now (user (state a.t.now) a.s) 64 (omega arith) (omega arith))))
-    ∙ roles_busy (state a.t.now) a.s c.if-owner-gt64.false c.if-owner-eq0.false
+    ∙ ap (λ (w : ℕ). subset (S.active c.args.s) w) (c.authorised_roles.ensures ∙ sym (authorised_roles_are t u (in_table t u 64 c.told-t (omega arith))))
+    ∙ roles_busy S c.args.s (omega arith) (λ e. absurd (omega arith))
 
-pub returns-then-owner-gt64 : goal.returns-then-owner-gt64
-returns-then-owner-gt64 c = roles_past _ _ c.if-owner-gt64.true
-
-pub returns-then-owner-eq0 : goal.returns-then-owner-eq0
-returns-then-owner-eq0 c = roles_idle _ _ c.if-owner-eq0.true (c.type_inv.t _).fits
+pub returns-in_default : goal.returns-in_default
+returns-in_default c = roles_past _ _ (omega arith)

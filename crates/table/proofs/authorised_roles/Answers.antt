@@ -1,23 +1,20 @@
 -- `authorised_roles` meets its contract. Assumes nothing.
-use native.Mathlib.Omega.{arith}
 use mathlib.Core.Path.{◌∙◌}
-use Rattle.table.proofs.Table.{in_table, short_table, past_table}
+use native.Mathlib.Omega.{arith}
 use Rattle.table.specs.Authority.{authorised}
+use Rattle.table.proofs.Table.{in_table, short_table, past_table}
 use Rattle.table.proofs.Answers.{authorised_roles_none, authorised_roles_are}
 use Rattle.table.proofs.authorised_roles.Goals as goal
 
-pub returns-then-t-ne-WORDS : goal.returns-then-t-ne-WORDS
-returns-then-t-ne-WORDS c =
-    let a = c.args in
-    authorised_roles_none a.t.now a.u (short_table a.t.now a.u 64 c.if-t-ne-WORDS.true)
+pub returns-in_default : goal.returns-in_default
+returns-in_default c = authorised_roles_none _ _ (short_table _ _ _ c.in_default.ensures.cases)
 
 pub returns-then-u-gt63 : goal.returns-then-u-gt63
-returns-then-u-gt63 c =
-    let a = c.args in
-    authorised_roles_none a.t.now a.u (past_table a.t.now a.u 64 c.if-u-gt63.true)
+returns-then-u-gt63 c = authorised_roles_none _ _ (past_table _ _ _ c.if-u-gt63.true)
 
 pub returns : goal.returns
 unfolding authorised
 returns c =
-    let a = c.args in
-    c.juniors_of.ensures ∙ authorised_roles_are a.t.now a.u (in_table a.t.now a.u 64 (omega arith) (omega arith))
+    let table = c.in-Some.ensures.cases in
+    let e = rw table.same at c.juniors_of.ensures in
+    e ∙ authorised_roles_are _ _ (in_table _ _ _ table.long (omega arith))

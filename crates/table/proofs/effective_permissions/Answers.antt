@@ -1,31 +1,27 @@
--- The goals that are left.
-use mathlib.Core.Path.{refl, ◌∙◌}
+-- `effective_permissions` meets its contract: what is granted to the active roles and their juniors is what is effective.
+-- Assumes nothing.
+use mathlib.Core.Path.{ap, ◌∙◌}
 use native.Mathlib.Omega.{arith}
-use Rattle.bits.proofs.Tabulate.{fill_start, fill_step, fill_end}
+use lib.ListN.{length}
+use Rattle.std.proofs.Common.{rules}
+use Rattle.bits.specs.Words.{pack}
+use Rattle.bits.proofs.Chains.{made_is}
+use Rattle.table.specs.Authority.{effective}
+use Rattle.table.specs.Reading.{state}
 use Rattle.table.proofs.Table.{in_table, short_table, past_table}
 use Rattle.table.proofs.Answers.{effective_permissions_none, effective_permissions_are, granted_effective}
 use Rattle.table.proofs.effective_permissions.Goals as goal
 
-pub returns-then-t-ne-WORDS : goal.returns-then-t-ne-WORDS
-returns-then-t-ne-WORDS c =
-    let a = c.args in
-    effective_permissions_none a.t.now a.s (short_table a.t.now a.s 32 c.if-t-ne-WORDS.true)
+pub returns-in_default : goal.returns-in_default
+returns-in_default c = effective_permissions_none _ _ (short_table _ _ _ c.in_default.ensures.cases)
 
 pub returns-then-s-gt31 : goal.returns-then-s-gt31
-returns-then-s-gt31 c =
-    let a = c.args in
-    effective_permissions_none a.t.now a.s (past_table a.t.now a.s 32 c.if-s-gt31.true)
-
-pub loop-x-preserved : goal.loop-x-preserved
-loop-x-preserved c =
-    fill_step c.loop-x.invariant c.loop-x-test.true
-    (c.granted_objects.ensures ∙ granted_effective _ _ c.loop-x.x c.juniors_of-roles.result c.juniors_of-roles.ensures)
+returns-then-s-gt31 c = effective_permissions_none _ _ (past_table _ _ _ c.if-s-gt31.true)
 
 pub returns : goal.returns
 returns c =
-    let a = c.args in
-    fill_end c.loop-x.invariant c.loop-x-test.false
-    ∙ effective_permissions_are a.t.now a.s (in_table a.t.now a.s 32 (omega arith) (omega arith))
-
-pub loop-x-init : goal.loop-x-init
-loop-x-init c = fill_start refl
+    let table = c.in-Some.ensures.cases in
+    rw (← table.same) (made_is _ (λ x. pack 64 (effective (state c.in-Some.table.now) c.args.s x)) 8
+    (λ x w q k. (search rules, λ l. granted_effective _ c.args.s x _ c.juniors_of-roles.ensures (search rules)))
+    c.from_fn.ensures.items
+    ∙ effective_permissions_are _ _ (in_table _ _ _ (ap length table.same ∙ table.long) (omega arith)))

@@ -8,8 +8,4 @@ pub returns-then-roles-eq0 : goal.returns-then-roles-eq0
 returns-then-roles-eq0 c = let a = c.args in granted_none (state a.t.now) a.x a.roles c.if-roles-eq0.true
 
 pub returns-then-permitted : goal.returns-then-permitted
-returns-then-permitted c = let a = c.args in
-    c.meeting.ensures ∙ granted_all (state a.t.now) a.x a.roles c.if-permitted.true
-
-pub returns : goal.returns
-returns c = c.granted_among.ensures
+returns-then-permitted c = let a = c.args in c.meeting.ensures ∙ granted_all (state a.t.now) a.x a.roles c.if-permitted.true

@@ -1,18 +1,7 @@
--- The goals that are left.
-use mathlib.Core.Path.{sym, ◌∙◌}
-use Rattle.bits.proofs.Walk.{seek_start, seek_step, seek_found, seek_end}
+-- `is_covered` meets its contract: a role is looked for that is one of the granted or senior to one. Assumes nothing.
+use Rattle.std.proofs.Common.{rules}
+use Rattle.bits.proofs.Chains.{some_is}
 use Rattle.table.proofs.is_covered.Goals as goal
 
-pub returns-then-overlap : goal.returns-then-overlap
-returns-then-overlap c = sym (seek_found c.loop-left.invariant c.loop-left-test.true c.lowest-role.ensures (sym c.overlap.ensures ∙ c.if-overlap.true))
-
-pub loop-left-preserved : goal.loop-left-preserved
-loop-left-preserved c =
-    seek_step c.loop-left.invariant c.loop-left-test.true c.lowest-role.ensures c.rest-left.ensures
-    (sym c.overlap.ensures ∙ c.if-overlap.false)
-
-pub loop-left-init : goal.loop-left-init
-loop-left-init c = seek_start c.ranges.roles.fits
-
 pub returns : goal.returns
-returns c = sym (seek_end c.loop-left.invariant c.loop-left-test.false)
+returns c = some_is _ _ c.of.ensures c.ranges.roles.fits c.any.ensures.ran (λ r f k. (search rules, λ l. search rules)) (λ r f k l. search rules)

@@ -1,38 +1,35 @@
 -- The goals that are left.
-use borrow.Author.Rules.{rules}
-use Prim.Native.Nat.{ℕ, ◌+◌, ◌-◌, ◌<◌}
-use mathlib.Core.Path.{◌≡◌, sym, ap, ◌∙◌}
-use mathlib.Core.Bool.{Bool}
-use native.Mathlib.Nat.{add-zero}
+use Prim.Native.Nat.{ℕ, ◌+◌, ◌*◌, ◌≤◌}
+use mathlib.Core.Path.{◌≡◌, refl, ap, ◌∙◌}
+use mathlib.Core.Bool.{Bool, true, false}
 use native.Mathlib.Omega.{arith}
+use mir.Val.{bool_byte}
 use Rattle.bits.specs.Words.{bit}
-use Rattle.bits.specs.Sets.{overlap}
-use Rattle.bits.proofs.Walk.{stack_start, stack_room, stack_step}
-use Rattle.table.specs.Reading.{word}
+use Rattle.bits.proofs.Walk.{stack_start, stack_room, stack_step, stack_end}
 use Rattle.table.proofs.meeting.Goals as goal
-use Rattle.table.proofs.meeting.Goals.{then-overlap, else-overlap}
 
--- the word that is asked is the next one down
-place : (k : ℕ) → k < 64 → 63 - k ≡ 64 - (k + 1)
-place k h = omega arith
-
-pub loop-k-preserved : goal.loop-k-preserved
+-- a truth value as a number
+of_bool : (b : Bool) → (bool_byte b ≡ bit b) × (bool_byte b ≤ 1)
 unfolding bit
-loop-k-preserved c =
-    let l = c.loop-k in
-    let a = c.args in
-    let h = c.loop-k-test.true in
-    let asked = ap (λ (i : ℕ). overlap (word a.t.now (a.at + i)) a.set) (sym (place l.k h)) ∙ sym c.overlap.ensures in
-    elim c.if-overlap.branch [
-      | then-overlap w ↦ stack_step l.invariant h (w.found-is ∙ ap (λ (b : Bool). l.found + l.found + bit b) (sym (asked ∙ w.if-overlap.true)))
-      | else-overlap w ↦ stack_step l.invariant h (w.found-is ∙ sym (add-zero _) ∙ ap (λ (b : Bool). l.found + l.found + bit b) (sym (asked ∙ w.if-overlap.false)))
-    ]
+of_bool true = (refl, omega arith)
+of_bool false = (refl, omega arith)
 
-pub loop-k-init : goal.loop-k-init
-loop-k-init c = stack_start
+pub loop-i-init : goal.loop-i-init
+loop-i-init c = stack_start
+
+pub overflow_mul-found : goal.overflow_mul-found
+overflow_mul-found c = let r = stack_room c.loop-i.invariant c.loop-i-test.true (omega arith) in record { fits = omega arith }
 
 pub overflow_add-found : goal.overflow_add-found
-overflow_add-found c = let r = stack_room c.loop-k.invariant c.loop-k-test.true (omega arith) in omega arith
+overflow_add-found c =
+    let r = stack_room c.loop-i.invariant c.loop-i-test.true (omega arith) in
+    let e = of_bool c.overlap.result in
+    record { fits = omega arith }
 
-pub overflow_add-found-then-overlap : goal.overflow_add-found-then-overlap
-overflow_add-found-then-overlap c = let r = stack_room c.loop-k.invariant c.loop-k-test.true (omega arith) in search (rules, r)
+pub loop-i-preserved : goal.loop-i-preserved
+loop-i-preserved c =
+    let e = of_bool c.overlap.result in
+    stack_step c.loop-i.invariant c.loop-i-test.true (ap (λ (n : ℕ). 2 * c.loop-i.found + n) (c.from.ensures ∙ e.0 ∙ ap bit c.overlap.ensures))
+
+pub returns : goal.returns
+returns c = stack_end c.loop-i.invariant c.loop-i-test.false

@@ -5,5 +5,5 @@ use Rattle.bits.proofs.Walk.{Stacking}
 use Rattle.table.specs.Reading.{word}
 use Rattle.table.proofs.meeting.Given as goal
 
-abbrev pub invariant-loop-k : goal.invariant-loop-k
-invariant-loop-k l = Stacking (λ i. overlap (word l.t (l.at + i)) l.set) 64 l.k l.found
+abbrev pub invariant-loop-i : goal.invariant-loop-i
+invariant-loop-i l = Stacking (λ i. overlap (word l.t (l.at + i)) l.set) 64 l.i l.found
