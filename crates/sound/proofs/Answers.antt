@@ -9,13 +9,13 @@ use lib.ListN.{length, get_or}
 use borrow.Author.Tests.{leb-true, lt-ltb}
 use Rattle.bits.specs.Words.{◌and◌, ◌implies◌, has, all, subset}
 use Rattle.bits.specs.Sets.{each}
-use Rattle.bits.proofs.Truth.{by_truth, same_truth, and_intro, and_left, and_right, true_and, false_and, and_assoc}
-use Rattle.bits.proofs.Below.{all_intro, all_elim, all_cong}
+use Rattle.bits.proofs.Truth.{clash, is_false, by_truth, same_truth, and_intro, and_left, and_right, true_and, false_and, and_assoc}
+use Rattle.bits.proofs.Below.{all_cong}
 use Rattle.bits.proofs.Membership.{each_cong, subset_pack}
 use Rattle.table.specs.State.{State}
 use Rattle.table.specs.Authority.{authorised, may_activate, effective}
 use Rattle.table.specs.Separation.{separated}
-use Rattle.table.specs.Masks.{mask_of, masks_true}
+use Rattle.table.specs.Masks.{mask_of}
 use Rattle.table.specs.Sound.{sound}
 use Rattle.table.specs.Answers.{authorised_roles, effective_permissions, openable}
 use Rattle.table.specs.Reading.{state}
@@ -23,43 +23,21 @@ use Rattle.table.specs.Table.{table_length, is_table, encode}
 use Rattle.table.proofs.Agree.{Agree, authorised_agree, may_activate_agree, effective_agree, sound_agree}
 use Rattle.table.proofs.Encode.{state_encode, encode_length}
 use Rattle.table.proofs.Separation.{separated_intro}
-use Rattle.table.proofs.Masks.{masks_elim, masks_intro}
-use Rattle.table.proofs.Sound.{sound_ruled, sound_masks}
+use Rattle.table.proofs.Sound.{sound_ruled}
 use Rattle.table.proofs.Table.{is_table_lem, in_table}
 use Rattle.table.proofs.Answers.{authorised_roles_are, openable_is}
 use Rattle.masks.specs.Answers.{all_masks}
 use Rattle.masks.proofs.Refreshing.{all_masks_of, permissions_are}
 use Rattle.sound.specs.Answers.{is_sound, openings_fit, sessions_fit, pair_fits, sessions_hold, held_within, openings_within, sessions_of, holders_of, sessions_within}
-use Rattle.sound.specs.Tests.{role_fits, grants_fit, roles_fit, session_fits}
-use Rattle.sound.proofs.Items.{Words, sound_role, sound_roles, sound_held, items_sound}
-use Rattle.sound.proofs.Grants.{sound_grants, each_grant}
+use Rattle.sound.specs.Tests.{roles_fit, session_fits}
 
--- ---- the test, item by item
+-- an item that a sound state passes, and this one does not
+pub unsound : (S : State) {b : Bool} → (sound S ≡ true → b ≡ true) → b ≡ false → false ≡ sound S
+unsound S k e = sym (is_false (λ p. clash (k p) e))
 
-pub items_are : (S : State) → Words S
-    → (((all 64 (role_fits S) and all 8 (grants_fit S)) and masks_true S) and all 32 (λ s. session_fits S s (S.masks s))) and separated S ≡ sound S
-unfolding session_fits held_within
-items_are S w =
-    same_truth
-    (λ e.
-    let sessions = and_left _ (separated S) e in
-    let masks = and_left _ (all 32 (λ s. session_fits S s (S.masks s))) sessions in
-    let grants = and_left _ (masks_true S) masks in
-    items_sound S w
-    (all_elim _ 64 (and_left _ (all 8 (grants_fit S)) grants))
-    (λ x o hx ho. each_grant S x (all_elim _ 8 (and_right (all 64 (role_fits S)) _ grants) x hx) o ho)
-    (masks_elim S (and_right (all 64 (role_fits S) and all 8 (grants_fit S)) _ masks))
-    (all_elim _ 32 (and_right ((all 64 (role_fits S) and all 8 (grants_fit S)) and masks_true S) _ sessions))
-    (and_right _ (separated S) e))
-    (λ e.
-    let f = sound_ruled S e in
-    let m = sound_masks S e in
-    and_intro (and_intro (and_intro (and_intro
-    (all_intro _ 64 (sound_role S f))
-    (all_intro _ 8 (λ x h. sound_grants S x f (w.granted_word x) h)))
-    (masks_intro S m))
-    (all_intro _ 32 (λ s h. and_intro (sound_roles S f s h) (all_intro _ 8 (λ x l. sound_held S f m s x h l)))))
-    (separated_intro S f.is_separated))
+-- what is left to ask where the roles are found sound
+pub found_sound : (S : State) {b : Bool} → b ≡ separated S → (separated S ≡ true → sound S ≡ true) → b ≡ sound S
+found_sound S e k = e ∙ same_truth k (λ p. separated_intro S (sound_ruled S p).is_separated)
 
 -- what the test answers of a table
 pub sound_state : (t : List ℕ) → is_sound t ≡ true → sound (state t) ≡ true

@@ -6,7 +6,6 @@ use mathlib.Core.List.{List, []}
 use native.Mathlib.Omega.{arith}
 use lib.Dec.{eqb}
 use borrow.Author.Tests.{eqb-true, eq-eqb}
-use borrow.Rule.Slice.PartMut.{mid_of}
 use Rattle.std.specs.Simd.{first_chunks}
 use Rattle.std.proofs.Common.{length, get_or, drop}
 use Rattle.std.proofs.lemmas.List.{get_or-take, get_or-drop}
@@ -68,12 +67,3 @@ unfolding session_fits held_within
 eights_fit S masks e k =
     all_cong 32 (λ s hs. ap (λ (b : Bool). roles_fit S s and b) (all_cong 8 (λ x hx. ap (subset (S.holds s x))
     (ap (λ (l : List (List ℕ)). get_or (get_or l s []) x 0) k ∙ eight_at (length masks / 8) masks s x (omega arith) hx))))
-
--- those that stand in the table
-pub own_masks_fit : (t : List ℕ) → let S = state t in
-    all 32 (λ s. session_fits S s (λ x. get_or (mid_of 1096 256 t) (8 * s + x) 0)) ≡ all 32 (λ s. session_fits S s (S.masks s))
-unfolding session_fits held_within
-own_masks_fit t =
-    let S = state t in
-    all_cong 32 (λ s hs. ap (λ (b : Bool). roles_fit S s and b) (all_cong 8 (λ x hx. ap (subset (S.holds s x))
-    (get_or-take 256 (drop 1096 t) (8 * s + x) 0 (omega arith) ∙ get_or-drop 1096 t (8 * s + x) 0 ∙ ap (λ (i : ℕ). get_or t i 0) (omega arith)))))

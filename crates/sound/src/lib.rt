@@ -89,11 +89,32 @@ fn masks_true(t: &[u64; WORDS]) -> bool
 fn all_fits(t: &[u64; WORDS]) -> bool
     ensures { result ≡ sound (state t.now) }
 {
-    (0..64).all(|r| role_fits(t, r))
-        && (0..8).all(|x| grants_fit(t, x))
-        && masks_true(t)
-        && all_sessions_fit(t, &t[MASKS..])
-        && separation::is_separated(t)
+    'test: loop {
+        for r in 0..64 {
+            if !role_fits(t, r) {
+                break 'test false;
+            }
+        }
+        for x in 0..8 {
+            if !grants_fit(t, x) {
+                break 'test false;
+            }
+        }
+        if !masks_true(t) {
+            break 'test false;
+        }
+        for s in 0..32 {
+            if !roles_fit(t, s) {
+                break 'test false;
+            }
+            for x in 0..8 {
+                if !bits::subset(t[HOLDS + 8 * s + x], t[MASKS + 8 * s + x]) {
+                    break 'test false;
+                }
+            }
+        }
+        break 'test separation::is_separated(t);
+    }
 }
 
 // Whether this is a table and sound.

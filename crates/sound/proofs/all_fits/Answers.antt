@@ -1,70 +1,59 @@
--- `all_fits` meets its contract: all is asked in turn. Assumes nothing.
-use mathlib.Core.Path.{sym, ◌≡◌, ◌∙◌}
-use Rattle.std.proofs.Common.{rules}
-use Rattle.bits.specs.Words.{◌and◌, all}
-use Rattle.bits.proofs.Chains.{all_is}
-use Rattle.bits.proofs.Truth.{and_yes, and_no}
-use Rattle.table.specs.Masks.{masks_true}
-use Rattle.table.specs.Reading.{state}
+-- `all_fits` meets its contract: the first item that does not fit ends the test. Assumes nothing.
+use mathlib.Core.Path.{sym, ◌∙◌}
+use Rattle.bits.proofs.Truth.{and_intro}
+use Rattle.bits.proofs.Below.{widen, all_intro, passed_more, passed_all}
+use Rattle.table.proofs.Masks.{masks_elim, masks_intro}
+use Rattle.table.proofs.Sound.{sound_ruled, sound_masks}
 use Rattle.separation.proofs.Sets.{separated_are}
-use Rattle.sound.specs.Tests.{role_fits, grants_fit, session_fits}
-use Rattle.sound.proofs.Answers.{items_are}
-use Rattle.sound.proofs.Masks.{own_masks_fit}
+use Rattle.sound.specs.Answers.{held_within}
+use Rattle.sound.specs.Tests.{session_fits}
+use Rattle.sound.proofs.Items.{sound_role, sound_roles, sound_held, items_sound}
+use Rattle.sound.proofs.Grants.{sound_grants, each_grant}
+use Rattle.sound.proofs.Answers.{unsound, found_sound}
 use Rattle.sound.proofs.all_fits.Goals as goal
-use Rattle.sound.proofs.all_fits.Goals.{then-all, else-all, then-all-2, else-all-2, then-masks_true, else-masks_true}
 
-pub returns-then-all_sessions_fit : goal.returns-then-all_sessions_fit
-returns-then-all_sessions_fit c =
-    let S = state c.args.t.now in
-    let roles = all_is (role_fits S) c.all.ensures.ran (λ r q k. (search rules, λ l. search rules)) (λ r q k l. search rules) in
-    let two : c.if-all.value ≡ all 64 (role_fits S) and all 8 (grants_fit S) =
-    elim c.if-all.branch [
-      | then-all w ↦
-          w.value-is
-          ∙ all_is (grants_fit S) w.all-then-all.ensures.ran (λ x q k. (search rules, λ l. search rules)) (λ x q k l. search rules)
-          ∙ and_yes roles w.if-all.true
-      | else-all w ↦ w.value-is ∙ and_no _ roles w.if-all.false
-    ] in
-    let three : c.if-all-2.value ≡ (all 64 (role_fits S) and all 8 (grants_fit S)) and masks_true S =
-    elim c.if-all-2.branch [
-      | then-all-2 w ↦ w.value-is ∙ w.masks_true.ensures ∙ and_yes two w.if-all-2.true
-      | else-all-2 w ↦ w.value-is ∙ and_no _ two w.if-all-2.false
-    ] in
-    let four : c.if-masks_true.value ≡ ((all 64 (role_fits S) and all 8 (grants_fit S)) and masks_true S) and all 32 (λ s. session_fits S s (S.masks s)) =
-    elim c.if-masks_true.branch [
-      | then-masks_true w ↦ w.value-is ∙ w.all_sessions_fit.ensures ∙ own_masks_fit c.args.t.now ∙ and_yes three w.if-masks_true.true
-      | else-masks_true w ↦ w.value-is ∙ and_no _ three w.if-masks_true.false
-    ] in
-    c.is_separated.ensures ∙ sym (separated_are _ c.told-t) ∙ and_yes four c.if-all_sessions_fit.true ∙ items_are S (record {
+pub loop-x-2-preserved : goal.loop-x-2-preserved
+loop-x-2-preserved c = passed_more c.loop-x-2.invariant (widen 8 c.loop-x-2-test.true tt) (sym c.subset.ensures ∙ c.if-not-subset.false)
+
+pub loop-s-preserved : goal.loop-s-preserved
+unfolding session_fits held_within
+loop-s-preserved c =
+    passed_more c.loop-s.invariant (widen 32 c.loop-s-test.true tt)
+    (and_intro
+    (sym c.roles_fit.ensures ∙ c.if-not-roles_fit.false)
+    (all_intro _ 8 (passed_all c.loop-x-2.invariant c.loop-x-2-test.false)))
+
+pub returns-then-not-role_fits : goal.returns-then-not-role_fits
+returns-then-not-role_fits c = unsound _ (λ e. sound_role _ (sound_ruled _ e) c.loop-r.r c.loop-r-test.true) (sym c.role_fits.ensures ∙ c.if-not-role_fits.true)
+
+pub returns-then-not-grants_fit : goal.returns-then-not-grants_fit
+returns-then-not-grants_fit c =
+    unsound _ (λ e. sound_grants _ _ (sound_ruled _ e) (λ o. c.fits-t _) (widen 8 c.loop-x-test.true tt))
+    (sym c.grants_fit.ensures ∙ c.if-not-grants_fit.true)
+
+pub returns-then-not-masks_true : goal.returns-then-not-masks_true
+returns-then-not-masks_true c = unsound _ (λ e. masks_intro _ (sound_masks _ e)) (sym c.masks_true.ensures ∙ c.if-not-masks_true.true)
+
+pub returns-then-not-roles_fit : goal.returns-then-not-roles_fit
+returns-then-not-roles_fit c = unsound _ (λ e. sound_roles _ (sound_ruled _ e) c.loop-s.s (widen 32 c.loop-s-test.true tt)) (sym c.roles_fit.ensures ∙ c.if-not-roles_fit.true)
+
+pub returns-then-not-subset : goal.returns-then-not-subset
+returns-then-not-subset c =
+    unsound _ (λ e.
+    sound_held _ (sound_ruled _ e) (sound_masks _ e) c.loop-s.s c.loop-x-2.x
+    (widen 32 c.loop-s-test.true tt) (widen 8 c.loop-x-2-test.true tt))
+    (sym c.subset.ensures ∙ c.if-not-subset.true)
+
+pub returns-after-loop-s : goal.returns-after-loop-s
+returns-after-loop-s c =
+    let all-modes = passed_all c.loop-x.invariant c.loop-x-test.false in
+    found_sound _ (c.is_separated.ensures ∙ sym (separated_are _ c.told-t))
+    (items_sound _ (record {
       granted_word = λ x o. c.fits-t _;
       active_word = λ s. c.fits-t _;
       holds_word = λ s x. c.fits-t _;
     })
-
-pub returns-else-all_sessions_fit : goal.returns-else-all_sessions_fit
-returns-else-all_sessions_fit c =
-    let S = state c.args.t.now in
-    let roles = all_is (role_fits S) c.all.ensures.ran (λ r q k. (search rules, λ l. search rules)) (λ r q k l. search rules) in
-    let two : c.if-all.value ≡ all 64 (role_fits S) and all 8 (grants_fit S) =
-    elim c.if-all.branch [
-      | then-all w ↦
-          w.value-is
-          ∙ all_is (grants_fit S) w.all-then-all.ensures.ran (λ x q k. (search rules, λ l. search rules)) (λ x q k l. search rules)
-          ∙ and_yes roles w.if-all.true
-      | else-all w ↦ w.value-is ∙ and_no _ roles w.if-all.false
-    ] in
-    let three : c.if-all-2.value ≡ (all 64 (role_fits S) and all 8 (grants_fit S)) and masks_true S =
-    elim c.if-all-2.branch [
-      | then-all-2 w ↦ w.value-is ∙ w.masks_true.ensures ∙ and_yes two w.if-all-2.true
-      | else-all-2 w ↦ w.value-is ∙ and_no _ two w.if-all-2.false
-    ] in
-    let four : c.if-masks_true.value ≡ ((all 64 (role_fits S) and all 8 (grants_fit S)) and masks_true S) and all 32 (λ s. session_fits S s (S.masks s)) =
-    elim c.if-masks_true.branch [
-      | then-masks_true w ↦ w.value-is ∙ w.all_sessions_fit.ensures ∙ own_masks_fit c.args.t.now ∙ and_yes three w.if-masks_true.true
-      | else-masks_true w ↦ w.value-is ∙ and_no _ three w.if-masks_true.false
-    ] in
-    and_no _ four c.if-all_sessions_fit.false ∙ items_are S (record {
-      granted_word = λ x o. c.fits-t _;
-      active_word = λ s. c.fits-t _;
-      holds_word = λ s x. c.fits-t _;
-    })
+    (passed_all c.loop-r.invariant c.loop-r-test.false)
+    (λ x o hx ho. each_grant _ x (all-modes x hx) o ho)
+    (masks_elim _ (sym c.masks_true.ensures ∙ c.if-not-masks_true.false))
+    (passed_all c.loop-s.invariant c.loop-s-test.false))
